@@ -1,0 +1,3 @@
+pub mod Rounding
+pub mod Refusals
+pub mod Answers

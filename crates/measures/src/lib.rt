@@ -1,0 +1,32 @@
+// The measures of a pension case, and the rounding that every step shares.
+ghost use mathlib.Core.Path.{_≡_};
+ghost use Prim.Native.Nat.{_<_};
+ghost use Rattle.measures.specs.Rounding.{rounded};
+
+// A time under contract, in minutes.
+pub struct Minutes(pub u64);
+
+// A time between two dates, in whole months.
+pub struct Months(pub u64);
+
+// An amount of money, in pence.
+pub struct Pence(pub u64);
+
+// What a call apart from a case gives: an amount, or the number of its refusal.
+pub enum Answer {
+    Amount(Pence),
+    Refused(u64),
+}
+
+// n/d to the nearest whole number, a half upward.
+pub fn rounded(n: u64, d: u64) -> u64
+    requires { ⌜ 0 < d ⌝ }
+    ensures { λ r. ⌜ r ≡ rounded n d ⌝ }
+{
+    let whole = n / d;
+    let rest = n % d;
+    if d - rest <= rest {
+        return whole + 1;
+    }
+    whole
+}

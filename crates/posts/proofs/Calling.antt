@@ -1,0 +1,140 @@
+-- The posts call: reading the posts one by one, writing the lent places, and the tests of the lengths.
+use mathlib.Core.Path.{_≡_, refl, sym, _∙_, ap, subst}
+use mathlib.Core.Bool.{Bool, true, false, cond}
+use mathlib.Core.List.{List, [], _∷_, _++_, append-assoc}
+use Prim.Native.Nat.{ℕ, zero, suc, _+_, _*_, _-_, _/_, _%_, _≤_, _<_}
+use native.Mathlib.Numerals.{add-one}
+use native.Mathlib.Omega.{arith}
+use lib.Dec.{eqb}
+use lib.ListN.{length, getD, take, drop, set}
+use lib.Seq.{drop-cons, set-at, append-snoc, take-suc, length-take-le}
+use borrow.Author.Tests.{eq-eqb, ne-eqb, le-leb, lt-leb}
+use Rattle.measures.specs.declared.Pence.{Pence}
+use Rattle.measures.specs.declared.Answer.{Answer}
+use Rattle.measures.specs.Answers.{answerOf}
+use Rattle.measures.specs.Refusals.{first}
+use Rattle.posts.specs.declared.Post.{Post}
+use Rattle.posts.specs.declared.YearPosts.{YearPosts}
+use Rattle.posts.specs.Posts.{parts, aggregatePay}
+use Rattle.posts.specs.Refusals.{postRefusal, postsRefusal}
+use Rattle.posts.specs.Call.{postAt, postsFrom, postsIn, callRefusal, callAnswer, placesAfter}
+use Rattle.posts.specs.Year.{postsOf, noPosts, Held, joinedBy}
+use Rattle.posts.proofs.Standing.{held-joined, posts-joined}
+
+-- ---- reading
+
+from-turn : (bytes : List ℕ) (n i : ℕ) → i < n → postsFrom bytes i (n - i) ≡ postAt bytes (8 * i) ∷ postsFrom bytes (i + 1) (n - (i + 1))
+unfolding postsFrom
+from-turn bytes n i g = let e : n - i ≡ suc (n - (i + 1)) = omega arith in rw (e, add-one) refl
+
+from-end : (bytes : List ℕ) (n i : ℕ) → n ≤ i → postsFrom bytes i (n - i) ≡ []
+unfolding postsFrom
+from-end bytes n i g = let e : n - i ≡ 0 = omega arith in rw e refl
+
+-- i of n posts are read, none of them refused
+pub record Reading (bytes : List ℕ) (n i : ℕ) (y : YearPosts) : Type 0 where
+  pub within : i ≤ n
+  pub held : Held y
+  pub posts : postsOf y ++ postsFrom bytes i (n - i) ≡ postsFrom bytes 0 n
+  pub refusal : postsRefusal [] (postsFrom bytes 0 n) ≡ postsRefusal (postsOf y) (postsFrom bytes i (n - i))
+
+pub held-none : Held noPosts
+held-none = record { room = refl; few = omega arith; minutes = refl; weighted = refl; whole = refl; stand = tt }
+
+module _ (bytes : List ℕ) (n : ℕ) where
+  all : postsFrom bytes 0 (n - 0) ≡ postsFrom bytes 0 n
+  all = ap (postsFrom bytes 0) (let e : n - 0 ≡ n = omega arith in e)
+
+  pub reading-start : Reading bytes n 0 noPosts
+  reading-start = record { within = omega arith; held = held-none; posts = all; refusal = ap (postsRefusal []) (sym all) }
+
+  module _ (i : ℕ) (y : YearPosts) (r : Reading bytes n i y) where
+    module _ (g : i < n) (refusal : ℕ) (e : refusal ≡ postRefusal (postsOf y) (postAt bytes (8 * i))) where
+      next : postsRefusal [] (postsFrom bytes 0 n) ≡ first refusal (postsRefusal (postsOf y ++ postAt bytes (8 * i) ∷ []) (postsFrom bytes (i + 1) (n - (i + 1))))
+      unfolding postsRefusal
+      next = rw (r .refusal, from-turn bytes n i g, e) refl
+
+      pub reading-stop : (refusal ≡ 0 → ⊥) → refusal ≡ postsRefusal [] (postsFrom bytes 0 n)
+      reading-stop f = sym (rw (ne-eqb _ _ f) at next)
+
+      pub reading-turn : refusal ≡ 0 → Reading bytes n (i + 1) (joinedBy y (postAt bytes (8 * i)))
+      reading-turn z =
+          record {
+            within = omega arith;
+            held = held-joined y x (r .held) accepted;
+            posts = rw joined (append-assoc (postsOf y) (x ∷ []) later ∙ ap (λ (l : List Post). postsOf y ++ l) (sym (from-turn bytes n i g)) ∙ r .posts);
+            refusal = rw (z) at next ∙ ap (λ (l : List Post). postsRefusal l later) (sym joined);
+          }
+        where
+          x : Post
+          x = postAt bytes (8 * i)
+
+          later : List Post
+          later = postsFrom bytes (i + 1) (n - (i + 1))
+
+          accepted : postRefusal (postsOf y) x ≡ 0
+          accepted = sym e ∙ z
+
+          joined : postsOf (joinedBy y x) ≡ postsOf y ++ x ∷ []
+          joined = posts-joined y x (r .held) accepted
+
+    module _ (g : n ≤ i) where
+      pub reading-end : 0 ≡ postsRefusal [] (postsFrom bytes 0 n)
+      unfolding postsRefusal
+      reading-end = sym (r .refusal ∙ ap (postsRefusal (postsOf y)) (from-end bytes n i g))
+
+      pub reading-all : postsOf y ≡ postsFrom bytes 0 n
+      reading-all = sym (append-nil (postsOf y)) ∙ ap (λ (l : List Post). postsOf y ++ l) (sym (from-end bytes n i g)) ∙ r .posts
+        where
+          append-nil : (z : List Post) → z ++ [] ≡ z
+          append-nil [] = refl
+          append-nil (y ∷ z) = ap (λ (r : List Post). y ∷ r) (append-nil z)
+
+pub from-length : (bytes : List ℕ) (i n : ℕ) → length (postsFrom bytes i n) ≡ n
+unfolding postsFrom
+from-length bytes i zero = refl
+from-length bytes i (suc n) = ap suc (from-length bytes (suc i) n)
+
+-- ---- writing
+
+-- a turn of a loop that copies s into the first places of d
+pub write-turn : (s d : List ℕ) (i : ℕ) → i < length s → i < length d → set (take i s ++ drop i d) i (getD s i 0) ≡ take (i + 1) s ++ drop (i + 1) d
+write-turn s d i hs hd =
+    rw add-one
+    (ap (λ (r : List ℕ). set (take i s ++ r) i (getD s i 0)) (drop-cons d i 0 hd)
+    ∙ set-at (take i s) (getD d i 0) (drop (suc i) d) (getD s i 0) i (length-take-le i s (omega arith))
+    ∙ sym (append-snoc (take i s) (getD s i 0) (drop (suc i) d))
+    ∙ ap (λ (r : List ℕ). r ++ drop (suc i) d) (sym (take-suc s i 0 hs)))
+
+-- ---- the tests of the lengths, in their order
+
+module _ (bytes : List ℕ) (places : ℕ) where
+  pub call-uneven : (length bytes % 8 ≡ 0 → ⊥) → callRefusal bytes places ≡ 23
+  unfolding callRefusal
+  call-uneven n = rw (ne-eqb _ _ n) refl
+
+  module _ (even : length bytes % 8 ≡ 0) where
+    pub call-many : 16 < length bytes / 8 → callRefusal bytes places ≡ 21
+    unfolding callRefusal
+    call-many m = rw (eq-eqb _ _ even, lt-leb _ _ m) refl
+
+    module _ (few : length bytes / 8 ≤ 16) where
+      pub call-short : places < length bytes / 8 → callRefusal bytes places ≡ 22
+      unfolding callRefusal
+      call-short s = rw (eq-eqb _ _ even, le-leb _ _ few, lt-leb _ _ s) refl
+
+      pub call-posts : length bytes / 8 ≤ places → callRefusal bytes places ≡ postsRefusal [] (postsIn bytes)
+      unfolding callRefusal
+      call-posts s = rw (eq-eqb _ _ even, le-leb _ _ few, le-leb _ _ s) refl
+
+-- ---- what the call gives and leaves, by its refusal
+
+module _ (bytes places : List ℕ) (r : ℕ) (e : callRefusal bytes (length places) ≡ r) where
+  pub call-refused : (r ≡ 0 → ⊥) → (Answer.Refused r ≡ callAnswer bytes (length places)) × (places ≡ placesAfter bytes places)
+  unfolding callAnswer placesAfter answerOf
+  call-refused n = (rw (e, ne-eqb _ _ n) refl, rw (e, ne-eqb _ _ n) refl)
+
+  pub call-accepted : r ≡ 0 → (a : Pence) (after : List ℕ) → a .0 ≡ aggregatePay (postsIn bytes) → after ≡ parts (postsIn bytes) ++ drop (length (postsIn bytes)) places
+      → (Answer.Amount a ≡ callAnswer bytes (length places)) × (after ≡ placesAfter bytes places)
+  unfolding callAnswer placesAfter answerOf
+  call-accepted z a after f g = (rw (e, z, ← f) refl, rw (e, z) g)

@@ -1,0 +1,11 @@
+pub mod ByRate
+pub mod Filling
+pub mod Optimum
+pub mod Ranking
+pub mod Aggregate
+pub mod Order
+pub mod Comparing
+pub mod Standing
+pub mod Turns
+pub mod Ranked
+pub mod Calling

@@ -1,0 +1,88 @@
+-- `posts::YearPosts::allocate` meets its contract: the invariant is `Upto`, the parts and the pay of the posts passed.
+use mathlib.Core.Path.{refl, sym, _∙_}
+use native.Mathlib.Nat.{le-trans, le-of-eq}
+use Prim.Native.Nat.{_-_}
+use Rattle.posts.proofs.Standing.{place-stands, minutes-few, minutes-some}
+use Rattle.posts.proofs.Turns.{Upto, upto-start, upto-turn, upto-end, part-most}
+use borrow.Author.Needs.{needs}
+use native.Mathlib.Omega.{arith}
+use Rattle.posts.proofs.YearPosts.allocate.Statement.{statement}
+use Rattle.posts.proofs.YearPosts.allocate.Tie as tie
+
+abbrev Inv-loop : tie.InvT-loop
+Inv-loop self n total parts₀ pay₀ i₀ parts pay i = Upto self parts pay i
+
+abbrev μ-loop : tie.MeasureT-loop
+μ-loop self n total parts₀ pay₀ i₀ parts pay i = self .count - i
+
+loop-holds : tie.Need-loop-holds Inv-loop μ-loop
+loop-holds c = upto-start (c .before .args .t1) (c .before .pre) _ refl
+
+part-of-requires : tie.Need-part-of-requires Inv-loop μ-loop
+part-of-requires c κs = (c .before .before .before .pre, c .loop-test .taken)
+
+mul-pay-for : tie.Need-mul-pay-for Inv-loop μ-loop
+mul-pay-for c = search needs
+
+element-copy-out-pay-for : tie.Need-element-copy-out-pay-for Inv-loop μ-loop
+element-copy-out-pay-for c = omega (arith, c .before .before .before .before .pre .few)
+
+pay-for-requires : tie.Need-pay-for-requires Inv-loop μ-loop
+pay-for-requires c κs =
+    let l = c .before .before .before in
+    let s = l .before .before in
+    let g = c .before .before .loop-test .taken in (
+      place-stands (s .args .t1) (s .pre) (l .loop .i) g,
+      le-trans (le-of-eq (c .before .part-of .ensures)) (part-most (s .args .t1) (s .pre) (l .loop .i) g),
+      minutes-some (s .args .t1) (s .pre) (omega arith),
+      omega (arith, s .pre .few, minutes-few (s .args .t1) (s .pre)),
+    )
+
+mul-parts : tie.Need-mul-parts Inv-loop μ-loop
+mul-parts c = search needs
+
+array-write-parts : tie.Need-array-write-parts Inv-loop μ-loop
+array-write-parts c = omega (arith, c .before .before .before .before .before .before .pre .few)
+
+add-pay : tie.Need-add-pay Inv-loop μ-loop
+add-pay c =
+    let l = c .before .before .before .before .before in
+    omega (arith, l .before .before .pre .few, l .loop .inv .most, c .before .pay-for .ensures .1)
+
+add-i : tie.Need-add-i Inv-loop μ-loop
+add-i c = omega (arith, c .before .before .before .before .before .before .before .pre .few)
+
+loop-less : tie.Need-loop-less Inv-loop μ-loop
+loop-less c = search needs
+
+loop-again : tie.Need-loop-again Inv-loop μ-loop
+loop-again c =
+    let l = c .before .before .before .before .before in
+    let s = l .before .before in
+    upto-turn (s .args .t1) (s .pre) _ _ (l .loop .i) _ _ (l .loop .inv) (c .before .before .before .before .loop-test .taken)
+    (c .before .before .before .part-of .ensures) (c .before .pay-for .ensures .0) (c .before .pay-for .ensures .1)
+
+returns : tie.Need-returns Inv-loop μ-loop
+returns c =
+    let l = c .before in
+    let e = upto-end (l .before .before .args .t1) (l .before .before .pre) _ _ (l .loop .i) (l .loop .inv) (c .loop-test .left) in
+    record { parts = e .0; aggregate = e .1 }
+
+pub allocate-spec : {M : Type 1} → statement M
+allocate-spec =
+    tie.close
+    (tie.spec
+    Inv-loop
+    μ-loop
+    loop-holds
+    part-of-requires
+    mul-pay-for
+    element-copy-out-pay-for
+    pay-for-requires
+    mul-parts
+    array-write-parts
+    add-pay
+    add-i
+    loop-less
+    loop-again
+    returns)

@@ -1,0 +1,7 @@
+pub mod Division
+pub mod Posts
+pub mod Refusals
+pub mod Call
+pub mod Rates
+pub mod Sums
+pub mod Year

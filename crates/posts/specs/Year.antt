@@ -1,0 +1,59 @@
+-- The posts of a year as the code holds them: an array with a count, and beside it H, K and whether a post is whole-time.
+use Prim.Native.Nat.{ℕ, _+_, _*_, _≤_}
+use mathlib.Core.Path.{_≡_}
+use mathlib.Core.Bool.{Bool, true, false, cond}
+use mathlib.Core.List.{List, [], _∷_}
+use lib.ListN.{length, take, set, replicate}
+use Rattle.posts.specs.declared.Post.{Post}
+use Rattle.posts.specs.declared.YearPosts.{YearPosts}
+use Rattle.posts.specs.declared.Allocation.{Allocation}
+use Rattle.posts.specs.declared.call.PostsRead.{PostsRead}
+use Rattle.posts.specs.Posts.{h, w, contractedMinutes, weightedParts, wholeTime, anyWholeTime, parts, aggregatePay}
+use Rattle.posts.specs.Refusals.{postStands, postsRefusal}
+
+-- a place that holds no post
+abbrev pub noPost : Post
+noPost = record { contracted = record { 0 = 0 }; whole = record { 0 = 0 }; pay = record { 0 = 0 } }
+
+-- the posts that it holds, in list order
+abbrev pub postsOf : YearPosts → List Post
+postsOf y = take (y .count) (y .list)
+
+abbrev pub AllStand : List Post → Type 0
+AllStand [] = Unit {0}
+AllStand (x ∷ xs) = (postStands x ≡ true) × AllStand xs
+
+-- what holds of a year that posts joined one by one, none of them refused
+pub record Held (y : YearPosts) : Type 0 where
+  pub room : length (y .list) ≡ 16
+  pub few : y .count ≤ 16
+  pub minutes : y .minutes .0 ≡ contractedMinutes (postsOf y)
+  pub weighted : y .weighted ≡ weightedParts (postsOf y)
+  pub whole : y .whole ≡ anyWholeTime (postsOf y)
+  pub stand : AllStand (postsOf y)
+
+-- a year without posts
+abbrev pub noPosts : YearPosts
+noPosts = record { list = replicate 16 noPost; count = 0; minutes = record { 0 = 0 }; weighted = 0; whole = false }
+
+-- the year that a post has joined at the end
+unfoldable pub joinedBy : YearPosts → Post → YearPosts
+joinedBy y x =
+    record {
+      list = set (y .list) (y .count) x;
+      count = y .count + 1;
+      minutes = record { 0 = y .minutes .0 + h x };
+      weighted = y .weighted + w x * h x;
+      whole = cond (y .whole) true (wholeTime x);
+    }
+
+-- the parts of each post and the aggregate pay
+pub record Allocated (y : YearPosts) (a : Allocation) : Type 0 where
+  pub parts : take (y .count) (a .parts) ≡ parts (postsOf y)
+  pub aggregate : a .aggregate .0 ≡ aggregatePay (postsOf y)
+
+-- posts read up to the first that is refused
+pub record ReadPosts (xs : List Post) (r : PostsRead) : Type 0 where
+  pub refusal : r .refusal ≡ postsRefusal [] xs
+  pub held : Held (r .year)
+  pub posts : r .refusal ≡ 0 → postsOf (r .year) ≡ xs

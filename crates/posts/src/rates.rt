@@ -1,0 +1,47 @@
+// The rates of posts: pay for a contracted minute.
+use super::Comparison;
+use super::Post;
+use measures::Minutes;
+use measures::Pence;
+ghost use mathlib.Core.Path.{_≡_};
+ghost use mathlib.Core.Bool.{true};
+ghost use Prim.Native.Nat.{_*_, _≤_};
+ghost use Rattle.posts.specs.Refusals.{postStands};
+ghost use Rattle.posts.specs.Rates.{comparison, rankedBefore};
+
+// A pay times contracted minutes, as two rates are compared.
+fn pay_times(pay: Pence, minutes: Minutes) -> u64
+    requires { ⌜ (pay .0 ≤ 1000000000) × (minutes .0 ≤ 10080) ⌝ }
+    ensures { λ r. ⌜ r ≡ pay .0 * minutes .0 ⌝ }
+{
+    pay.0 * minutes.0
+}
+
+// Whether the rate of x is higher than, lower than or equal to that of y.
+pub fn compare_rates(x: Post, y: Post) -> Comparison
+    requires { ⌜ (postStands x ≡ true) × (postStands y ≡ true) ⌝ }
+    ensures { λ r. ⌜ r ≡ comparison x y ⌝ }
+{
+    let own = pay_times(x.pay, y.contracted);
+    let other = pay_times(y.pay, x.contracted);
+    if other < own {
+        return Comparison::Higher;
+    }
+    if own < other {
+        return Comparison::Lower;
+    }
+    Comparison::Equal
+}
+
+// Whether y goes before x: at a higher rate, or at an equal one where y is the earlier in the list.
+pub fn goes_before(x: Post, earlier: bool, y: Post) -> bool
+    requires { ⌜ (postStands x ≡ true) × (postStands y ≡ true) ⌝ }
+    ensures { λ r. ⌜ r ≡ rankedBefore x earlier y ⌝ }
+{
+    let rates = compare_rates(y, x);
+    match rates {
+        Comparison::Higher => true,
+        Comparison::Equal => earlier,
+        Comparison::Lower => false,
+    }
+}

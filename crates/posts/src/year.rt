@@ -1,0 +1,220 @@
+// The posts of a year, held in list order.
+use super::Allocation;
+use super::Post;
+use super::YearPosts;
+use super::rates::goes_before;
+use measures::Minutes;
+use measures::Pence;
+use measures::rounded;
+ghost use mathlib.Core.Path.{_≡_};
+ghost use mathlib.Core.Bool.{cond, true};
+ghost use Prim.Native.Nat.{_+_, _*_, _-_, _≤_, _<_, min};
+ghost use lib.ListN.{getD};
+ghost use Rattle.measures.specs.Rounding.{rounded};
+ghost use Rattle.posts.specs.Posts.{h, p, contractedMinutes, wholeTime, parts, aggregatePay};
+ghost use Rattle.posts.specs.Refusals.{postStands, postRefusal};
+ghost use Rattle.posts.specs.Sums.{minutesAhead};
+ghost use Rattle.posts.specs.Year.{noPost, noPosts, postsOf, Held, joinedBy, Allocated};
+
+// Whether the fields of a post stand (7 otherwise).
+fn stands(x: Post) -> bool
+    ensures { λ r. ⌜ r ≡ postStands x ⌝ }
+{
+    if x.contracted.0 < 1 {
+        return false;
+    }
+    if x.whole.0 < x.contracted.0 {
+        return false;
+    }
+    if 10080 < x.whole.0 {
+        return false;
+    }
+    if 1000000000 < x.pay.0 {
+        return false;
+    }
+    true
+}
+
+// Whether a post is whole-time.
+fn is_whole_time(x: Post) -> bool
+    ensures { λ r. ⌜ r ≡ wholeTime x ⌝ }
+{
+    x.contracted.0 == x.whole.0
+}
+
+fn either(a: bool, b: bool) -> bool
+    ensures { λ r. ⌜ r ≡ cond a true b ⌝ }
+{
+    if a { true } else { b }
+}
+
+// The whole-time minutes times the contracted ones: what a post adds to K.
+fn weighted_week(contracted: Minutes, whole: Minutes) -> u64
+    requires { ⌜ (contracted .0 ≤ 10080) × (whole .0 ≤ 10080) ⌝ }
+    ensures { λ r. ⌜ r ≡ whole .0 * contracted .0 ⌝ }
+{
+    whole.0 * contracted.0
+}
+
+// Minutes as parts, H parts to a minute.
+fn in_parts(minutes: Minutes, total: Minutes) -> u64
+    requires { ⌜ (minutes .0 ≤ 161280) × (total .0 ≤ 161280) ⌝ }
+    ensures { λ r. ⌜ r ≡ minutes .0 * total .0 ⌝ }
+{
+    minutes.0 * total.0
+}
+
+// The minutes of a post that counts, else none.
+fn counted(counts: bool, minutes: Minutes) -> u64
+    ensures { λ r. ⌜ r ≡ cond counts (minutes .0) 0 ⌝ }
+{
+    if counts { minutes.0 } else { 0 }
+}
+
+// All of a post's parts, or what is left of the limit.
+fn at_most(all: u64, limit: u64, taken: u64) -> u64
+    ensures { λ r. ⌜ r ≡ min all (limit - taken) ⌝ }
+{
+    if limit <= taken {
+        return 0;
+    }
+    if all <= limit - taken {
+        all
+    } else {
+        limit - taken
+    }
+}
+
+// A number of parts times a yearly pay.
+fn parts_times(part: u64, pay: Pence) -> u64
+    requires { ⌜ (part ≤ 1625702400) × (pay .0 ≤ 1000000000) ⌝ }
+    ensures { λ r. ⌜ r ≡ part * pay .0 ⌝ }
+{
+    part * pay.0
+}
+
+// A post's pay for its parts: all of it for a post in full, else one rounded fraction.
+fn pay_for(x: Post, part: u64, total: Minutes) -> Pence
+    requires { ⌜ (postStands x ≡ true) × (part ≤ h x * total .0) × (0 < total .0) × (total .0 ≤ 161280) ⌝ }
+    ensures { λ r. ⌜ (r .0 ≡ rounded (part * p x) (h x * total .0)) × (r .0 ≤ 1000000000) ⌝ }
+{
+    let all = in_parts(x.contracted, total);
+    if part == all {
+        return x.pay;
+    }
+    Pence(rounded(parts_times(part, x.pay), all))
+}
+
+impl YearPosts {
+    // A year without posts.
+    pub fn none() -> YearPosts
+        ensures { λ r. ⌜ r ≡ noPosts ⌝ }
+    {
+        let empty = Post {
+            contracted: Minutes(0),
+            whole: Minutes(0),
+            pay: Pence(0),
+        };
+        YearPosts {
+            list: [empty; 16],
+            count: 0,
+            minutes: Minutes(0),
+            weighted: 0,
+            whole: false,
+        }
+    }
+
+    // The refusal of a post after those of the year: 7, then 8, or 0.
+    pub fn refusal_of(self, x: Post) -> u64
+        requires { ⌜ Held self ⌝ }
+        ensures { λ r. ⌜ r ≡ postRefusal (postsOf self) x ⌝ }
+    {
+        if !stands(x) {
+            return 7;
+        }
+        if 16 <= self.count {
+            return 7;
+        }
+        if !is_whole_time(x) {
+            return 0;
+        }
+        if self.whole {
+            return 8;
+        }
+        0
+    }
+
+    // The year that a post has joined at the end.
+    pub fn joined(self, x: Post) -> YearPosts
+        requires { ⌜ Held self × (postRefusal (postsOf self) x ≡ 0) ⌝ }
+        ensures { λ r. ⌜ r ≡ joinedBy self x ⌝ }
+    {
+        let at = self.count;
+        let mut list = self.list;
+        list[at] = x;
+        let minutes = Minutes(self.minutes.0 + x.contracted.0);
+        let weighted = self.weighted + weighted_week(x.contracted, x.whole);
+        let whole = either(self.whole, is_whole_time(x));
+        YearPosts {
+            list,
+            count: at + 1,
+            minutes,
+            weighted,
+            whole,
+        }
+    }
+
+    // The minutes of the posts that go before the one at a place.
+    fn minutes_ahead(self, at: usize) -> Minutes
+        requires { ⌜ Held self × (at < self .count) ⌝ }
+        ensures { λ r. ⌜ r .0 ≡ minutesAhead (getD (self .list) at noPost) at (postsOf self) ⌝ }
+    {
+        let n = self.count;
+        let x = self.list[at];
+        let mut minutes: u64 = 0;
+        let mut i: usize = 0;
+        while i < n {
+            let y = self.list[i];
+            minutes += counted(goes_before(x, i < at, y), y.contracted);
+            i += 1;
+        }
+        Minutes(minutes)
+    }
+
+    // The parts of the post at a place.
+    fn part_of(self, at: usize) -> u64
+        requires { ⌜ Held self × (at < self .count) ⌝ }
+        ensures { λ r. ⌜ r ≡ getD (parts (postsOf self)) at 0 ⌝ }
+    {
+        let x = self.list[at];
+        let total = self.minutes;
+        let all = in_parts(x.contracted, total);
+        if self.whole {
+            return if is_whole_time(x) { all } else { 0 };
+        }
+        at_most(all, self.weighted, in_parts(self.minutes_ahead(at), total))
+    }
+
+    // The parts of each post, and the aggregate pay.
+    pub fn allocate(self) -> Allocation
+        requires { ⌜ Held self ⌝ }
+        ensures { λ r. ⌜ Allocated self r ⌝ }
+    {
+        let n = self.count;
+        let total = self.minutes;
+        let mut parts = [0u64; 16];
+        let mut pay: u64 = 0;
+        let mut i: usize = 0;
+        while i < n {
+            let part = self.part_of(i);
+            let earned = pay_for(self.list[i], part, total);
+            parts[i] = part;
+            pay += earned.0;
+            i += 1;
+        }
+        Allocation {
+            parts,
+            aggregate: Pence(pay),
+        }
+    }
+}
