@@ -1,3 +1,4 @@
 pub mod Rounding
 pub mod Tests
+pub mod Answering
 pub mod Products

@@ -1,6 +1,6 @@
 -- The laws of rounding, for any number and any divisor above 0.
-use mathlib.Core.Path.{_≡_, refl, sym, _∙_, ap}
-use Prim.Native.Nat.{ℕ, suc, _+_, _*_, _/_, _%_, _-_, _≤_, _<_}
+use mathlib.Core.Path.{_≡_, sym, _∙_, ap}
+use Prim.Native.Nat.{ℕ, _+_, _*_, _/_, _%_, _-_, _≤_, _<_}
 use native.Mathlib.Nat.{le-div-iff-mul-le, div-mul-le-self, mul-add-div-right, mul-div-mul-right, le-trans, le-of-eq, div-eq-of-lt, div-add-mod', mul-le-mul-left, mod-lt}
 use native.Mathlib.Omega.{arith}
 use Rattle.measures.specs.Rounding.{rounded}

@@ -9,7 +9,7 @@ use native.Mathlib.Omega.{arith}
 use borrow.Author.Tests.{le-ltb}
 use Rattle.posts.specs.Division.{Claim, Rated, numerator, denominator, Within, nothing, more, total, Allowed, higher, noLower, partsOf, ahead, share, shares, division}
 use Rattle.posts.proofs.ByRate.{le-or-lt, _≼_, _≺_, ≺-≼-trans, rated-end, higher-mono, noLower-higher, higher-noLower, higher-yes, noLower-yes}
-use Rattle.posts.proofs.Filling.{Cut, cut-step, Sides, Filled, fill, filled-total, filled-weigh, Seen, seen}
+use Rattle.posts.proofs.Filling.{Cut, cut-step, Sides, fill, filled-total, filled-weigh, Seen, seen}
 
 -- ---- the optimum, on exact fractions before rounding
 

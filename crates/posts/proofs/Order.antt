@@ -2,12 +2,12 @@
 use mathlib.Core.Path.{_≡_, refl, sym, _∙_, ap, ap₂, subst}
 use mathlib.Core.Bool.{Bool, true, false, cond}
 use mathlib.Core.List.{List, [], _∷_}
-use Prim.Native.Nat.{ℕ, _+_, _*_, _≤_, _<_}
+use Prim.Native.Nat.{ℕ, _+_, _*_, _≤_}
 use native.Mathlib.Nat.{le-antisymm, le-of-eq, le-trans}
 use native.Mathlib.Omega.{arith}
 use Rattle.measures.specs.Rounding.{rounded}
 use Rattle.posts.specs.declared.Post.{Post}
-use Rattle.posts.specs.Division.{numerator, denominator, Within, nothing, more, total, Allowed}
+use Rattle.posts.specs.Division.{numerator, denominator, Within, nothing, more, total}
 use Rattle.posts.specs.Posts.{h, w, p, contractedMinutes, weightedParts, claims, aggregate, aggregatePay, wholeTime, anyWholeTime, parts, RivalIf}
 use Rattle.posts.proofs.Aggregate.{Worked, optimal, parts-allowed, wholeTimePay, aggregate-whole-time}
 

@@ -1,5 +1,5 @@
 -- What holds of posts that stand and of a year that holds them.
-use mathlib.Core.Path.{_≡_, refl, sym, _∙_, ap, ap₂, subst}
+use mathlib.Core.Path.{_≡_, refl, sym, _∙_, ap, subst}
 use mathlib.Core.Bool.{Bool, true, false, _&&_, not, cond}
 use mathlib.Core.List.{List, [], _∷_, _++_}
 use Prim.Native.Nat.{ℕ, zero, suc, _+_, _*_, _≤_, _<_}
@@ -7,11 +7,11 @@ use native.Mathlib.Nat.{not-suc-le-zero, le-of-suc-le-suc, mul-le-mul, mul-le-mu
 use native.Mathlib.Numerals.{add-one}
 use native.Mathlib.Omega.{arith}
 use lib.Dec.{ltb}
-use lib.ListN.{length, take, getD, set, length-set}
+use lib.ListN.{length, getD, length-set}
 use lib.Seq.{getD-take, take-suc-set, length-take-le}
 use borrow.Author.Tests.{ltb-true, lt-ltb, le-ltb}
 use Rattle.measures.specs.Rounding.{rounded}
-use Rattle.measures.specs.Refusals.{unless, first}
+use Rattle.measures.specs.Refusals.{unless}
 use Rattle.measures.proofs.Rounding.{rounded-whole, rounded-bound}
 use Rattle.measures.proofs.Tests.{parts, passed, neither, and-left, and-right}
 use Rattle.posts.specs.declared.Post.{Post}

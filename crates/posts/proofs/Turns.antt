@@ -1,22 +1,22 @@
 -- The turns of the loops over a year's posts: what one post adds to the minutes ahead, to the parts and to the pay.
-use mathlib.Core.Path.{_≡_, refl, sym, _∙_, ap, ap₂, subst}
+use mathlib.Core.Path.{_≡_, refl, sym, _∙_, ap, ap₂}
 use mathlib.Core.Bool.{Bool, true, false, cond}
 use mathlib.Core.List.{List, [], _∷_, _++_}
 use Prim.Native.Nat.{ℕ, zero, suc, _+_, _*_, _-_, _≤_, _<_, min}
-use native.Mathlib.Nat.{not-suc-le-zero, le-of-suc-le-suc, mul-le-mul, sub-eq-zero-of-le}
+use native.Mathlib.Nat.{not-suc-le-zero, le-of-suc-le-suc}
 use native.Mathlib.Numerals.{add-one}
 use native.Mathlib.Omega.{arith}
 use lib.Dec.{ltb}
-use lib.ListN.{length, take, drop, getD, set, length-take, length-set, drop-of-length-le}
+use lib.ListN.{length, take, drop, getD, set, length-set, drop-of-length-le}
 use lib.Seq.{drop-cons, getD-take, take-suc, take-suc-set, take-all}
 use borrow.Author.Tests.{ltb-true, ltb-false, le-ltb}
 use Rattle.measures.specs.Rounding.{rounded}
 use Rattle.posts.specs.declared.Post.{Post}
 use Rattle.posts.specs.declared.YearPosts.{YearPosts}
-use Rattle.posts.specs.Division.{Claim, Within, nothing, more, higher, noLower, partsOf, claimAt, division, shares}
-use Rattle.posts.specs.Posts.{h, w, p, contractedMinutes, weightedParts, claim, claims, wholeTime, anyWholeTime, wholeTimeParts, parts, aggregatePay}
+use Rattle.posts.specs.Division.{Claim, Within, nothing, more, higher, noLower, partsOf, claimAt, division, shares, paid}
+use Rattle.posts.specs.Posts.{h, p, contractedMinutes, weightedParts, claim, claims, wholeTime, anyWholeTime, wholeTimeParts, parts, aggregatePay}
 use Rattle.posts.specs.Rates.{rankedBefore}
-use Rattle.posts.specs.Sums.{paid, minutesAhead}
+use Rattle.posts.specs.Sums.{minutesAhead}
 use Rattle.posts.specs.Year.{noPost, postsOf, Held}
 use Rattle.posts.proofs.Aggregate.{aggregate-closed, parts-within}
 use Rattle.posts.proofs.Ranking.{division-at}

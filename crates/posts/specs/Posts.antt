@@ -1,9 +1,9 @@
 -- "Posts of a year": the parts that each post gets, and the aggregate pay.
 use mathlib.Core.Path.{_≡_}
-use Prim.Native.Nat.{ℕ, _+_, _*_, _≤_, _<_}
+use Prim.Native.Nat.{ℕ, _+_, _*_}
 use mathlib.Core.Bool.{Bool, true, false, cond}
-use mathlib.Core.List.{List, [], _∷_, _++_}
-use lib.Dec.{leb, ltb, eqb}
+use mathlib.Core.List.{List, [], _∷_}
+use lib.Dec.{eqb}
 use Rattle.measures.specs.Rounding.{rounded}
 use Rattle.posts.specs.Division.{Claim, division, Allowed, numerator, denominator}
 use Rattle.posts.specs.declared.Post.{Post}

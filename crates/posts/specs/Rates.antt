@@ -1,6 +1,6 @@
 -- The rates p/h of two posts compared, by cross products.
-use Prim.Native.Nat.{ℕ, _*_}
-use mathlib.Core.Bool.{Bool, true, false, cond}
+use Prim.Native.Nat.{_*_}
+use mathlib.Core.Bool.{Bool, cond}
 use lib.Dec.{leb, ltb}
 use Rattle.posts.specs.declared.Post.{Post}
 use Rattle.posts.specs.declared.Comparison.{Comparison}

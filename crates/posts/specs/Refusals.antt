@@ -1,10 +1,10 @@
 -- The refusals of posts.
 use Prim.Native.Nat.{ℕ}
-use mathlib.Core.Bool.{Bool, true, false, _&&_, not, cond}
+use mathlib.Core.Bool.{Bool, _&&_, not}
 use mathlib.Core.List.{List, [], _∷_, _++_}
-use lib.Dec.{leb, ltb, eqb}
+use lib.Dec.{leb, ltb}
 use lib.ListN.{length}
-use Rattle.measures.specs.Refusals.{within, unless, first}
+use Rattle.measures.specs.Refusals.{unless, first}
 use Rattle.posts.specs.declared.Post.{Post}
 use Rattle.posts.specs.Posts.{h, w, p, wholeTime, anyWholeTime}
 

@@ -1,7 +1,7 @@
 -- The posts of a year as the code holds them: an array with a count, and beside it H, K and whether a post is whole-time.
-use Prim.Native.Nat.{ℕ, _+_, _*_, _≤_}
+use Prim.Native.Nat.{_+_, _*_, _≤_}
 use mathlib.Core.Path.{_≡_}
-use mathlib.Core.Bool.{Bool, true, false, cond}
+use mathlib.Core.Bool.{true, false, cond}
 use mathlib.Core.List.{List, [], _∷_}
 use lib.ListN.{length, take, set, replicate}
 use Rattle.posts.specs.declared.Post.{Post}

@@ -1,0 +1,3 @@
+pub mod AcceptedDates
+pub mod CountedMonths
+pub mod SignedMonths

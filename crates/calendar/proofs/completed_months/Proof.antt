@@ -1,0 +1,43 @@
+-- `calendar::completed_months` meets its contract: accepted dates are in order, so that no difference is below nought.
+use native.Mathlib.Omega.{arith}
+use borrow.Author.Needs.{needs}
+use Rattle.calendar.proofs.CountedMonths.{ordered, ordered-short, completed-short, completed-full}
+use Rattle.calendar.proofs.completed_months.Statement.{statement}
+use Rattle.calendar.proofs.completed_months.Tie as tie
+
+mul-months : tie.Need-mul-months
+mul-months c = search needs
+
+add-months : tie.Need-add-months
+add-months c = search needs
+
+mul-months-2 : tie.Need-mul-months-2
+mul-months-2 c = search needs
+
+add-months-2 : tie.Need-add-months-2
+add-months-2 c = search needs
+
+sub-months : tie.Need-sub-months
+sub-months c =
+    let s = c .before .before .before .before in
+    omega (arith, ordered (s .args .birth) (s .args .retirement) (s .pre))
+
+sub-t9 : tie.Need-sub-t9
+sub-t9 c =
+    let s = c .before .before .before .before .before .before .before in
+    omega (arith, ordered-short (s .args .birth) (s .args .retirement) (s .pre) (c .if1 .taken))
+
+returns : tie.Need-returns
+returns c =
+    let s = c .before .before .before .before .before .before .before in
+    completed-short (s .args .birth) (s .args .retirement) (s .pre) (c .if1 .taken)
+
+returns-2 : tie.Need-returns-2
+returns-2 c =
+    let s = c .before .before .before .before .before .before .before in
+    completed-full (s .args .birth) (s .args .retirement) (s .pre) (c .if1 .left)
+
+pub completed-months-spec : {M : Type 1} → statement M
+completed-months-spec =
+    tie.close
+    (tie.spec mul-months add-months mul-months-2 add-months-2 sub-months sub-t9 returns returns-2)

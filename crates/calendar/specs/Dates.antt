@@ -1,0 +1,92 @@
+-- Document 01, "Months early", and what refusal 5 says of dates and pension age.
+use Prim.Native.Nat.{ℕ, _+_, _*_, _%_, _≤_}
+use mathlib.Core.Bool.{Bool, false, _&&_, _||_, not, cond}
+use mathlib.Core.Path.{_≡_}
+use lib.Dec.{ltb, eqb}
+use lib.IntN.{ℤ, pos, negℤ, _-ℤ_}
+use Rattle.measures.specs.Refusals.{within, unless}
+use Rattle.calendar.specs.declared.Date.{Date}
+use Rattle.calendar.specs.declared.MonthsEarly.{MonthsEarly}
+use Rattle.calendar.specs.declared.DatesAnswer.{DatesAnswer}
+
+-- "Age is completed months: 12 × years + months between the dates, one fewer if the retirement day number is below the birth day number."
+unfoldable pub completedMonths : Date → Date → ℤ
+completedMonths birth retirement =
+    pos (12 * retirement .year + retirement .month) -ℤ pos (12 * birth .year + birth .month)
+    -ℤ pos (cond (ltb (retirement .day) (birth .day)) 1 0)
+
+-- "Months early = 12 × pension age − age, which may be nought or negative"
+unfoldable pub monthsEarly : Date → Date → ℕ → ℤ
+monthsEarly birth retirement pensionAge = pos (12 * pensionAge) -ℤ completedMonths birth retirement
+
+-- "its Gregorian month": 4 divides a leap year, and where 100 does, 400 does too
+unfoldable pub isLeap : ℕ → Bool
+isLeap year = eqb (year % 4) 0 && (not (eqb (year % 100) 0) || eqb (year % 400) 0)
+
+-- "a day that doesn't fit its Gregorian month": the days of a month, 0 for a month outside 1 to 12
+unfoldable pub monthLength : ℕ → ℕ → ℕ
+monthLength year month =
+    cond (eqb month 4 || eqb month 6 || eqb month 9 || eqb month 11) 30
+    (cond (eqb month 2) (cond (isLeap year) 29 28)
+    (cond (within 1 12 month) 31 0))
+
+-- "year outside 1900 to 2100, month outside 1 to 12, a day that doesn't fit its Gregorian month"
+unfoldable pub dateStands : Date → Bool
+dateStands d = within 1900 2100 (d .year) && within 1 12 (d .month) && within 1 (monthLength (d .year) (d .month)) (d .day)
+
+-- "before": by the year; in one year by the month; in one month by the day
+unfoldable pub isBefore : Date → Date → Bool
+isBefore a b =
+    cond (eqb (a .year) (b .year))
+    (cond (eqb (a .month) (b .month)) (ltb (a .day) (b .day)) (ltb (a .month) (b .month)))
+    (ltb (a .year) (b .year))
+
+-- "Dates apart: 5", with "retirement before birth" and "pension age outside 55 to 75"
+unfoldable pub datesRefusal : Date → Date → ℕ → ℕ
+datesRefusal birth retirement pensionAge =
+    unless (dateStands birth && dateStands retirement && not (isBefore retirement birth) && within 55 75 pensionAge) 5
+
+-- "nought or negative": months early by the side of pension age
+unfoldable pub monthsOf : MonthsEarly → ℤ
+monthsOf (MonthsEarly.Early months) = pos (months .0)
+monthsOf (MonthsEarly.Late months) = negℤ (pos (months .0))
+
+-- the refusal that the dates call gives, 0 for none
+unfoldable pub refusalOf : DatesAnswer → ℕ
+refusalOf (DatesAnswer.Months months) = 0
+refusalOf (DatesAnswer.Refused number) = number
+
+-- "Each of these calls .. gives 0 for its number when refused."
+unfoldable pub monthsGiven : DatesAnswer → ℤ
+monthsGiven (DatesAnswer.Months months) = monthsOf months
+monthsGiven (DatesAnswer.Refused number) = pos 0
+
+-- the number that the dates call gives: months early, 0 when refused
+unfoldable pub datesNumber : Date → Date → ℕ → ℤ
+datesNumber birth retirement pensionAge =
+    cond (eqb (datesRefusal birth retirement pensionAge) 0) (monthsEarly birth retirement pensionAge) (pos 0)
+
+-- early is above nought and at most the months of pension age 75; late is at most 2,411 months, from January 1900 to December 2100, less those of pension age 55
+abbrev pub Bounded : MonthsEarly → Type 0
+Bounded (MonthsEarly.Early months) = (1 ≤ months .0) × (months .0 ≤ 900)
+Bounded (MonthsEarly.Late months) = months .0 ≤ 1751
+
+-- an answer of the dates call: bounded months, or refusal 5
+abbrev pub AnswerBounded : DatesAnswer → Type 0
+AnswerBounded (DatesAnswer.Months months) = Bounded months
+AnswerBounded (DatesAnswer.Refused number) = number ≡ 5
+
+-- what the numbers of a date that stands keep to
+pub record InRange (d : Date) : Type 0 where
+  pub year-from : 1900 ≤ d .year
+  pub year-to : d .year ≤ 2100
+  pub month-from : 1 ≤ d .month
+  pub month-to : d .month ≤ 12
+  pub day-from : 1 ≤ d .day
+  pub day-to : d .day ≤ 31
+
+-- what two dates that are not refused keep to, whatever the pension age
+pub record Accepted (birth retirement : Date) : Type 0 where
+  pub born : InRange birth
+  pub retired : InRange retirement
+  pub order : isBefore retirement birth ≡ false
