@@ -1,9 +1,13 @@
 // The functions that payroll code in C calls. include/canyonsieve.h declares them.
+use benefits::FinalPay;
+use benefits::abatement_call;
+use benefits::charge_call;
 use calendar::Date;
 use calendar::dates_call;
 use calendar::refusal_number;
 use calendar::signed;
 use measures::Answer;
+use measures::Pence;
 use posts::posts_call;
 ghost use mathlib.Core.Path.{_≡_};
 ghost use lib.ListN.{length};
@@ -11,7 +15,8 @@ ghost use Rattle.measures.specs.Answers.{refusalOf, amountOf, numberUnless};
 ghost use Rattle.calendar.specs.Dates.{datesRefusal, datesNumber};
 ghost use Rattle.posts.specs.Posts.{aggregatePay};
 ghost use Rattle.posts.specs.Call.{postsIn, callRefusal, placesAfter};
-ghost use Rattle.canyonsieve.specs.Results.{dateOf};
+ghost use Rattle.benefits.specs.Steps.{finalPayRefusal, charge, abatementRefusal, abatement};
+ghost use Rattle.canyonsieve.specs.Results.{dateOf, finalPayOf};
 
 // A refusal, 0 for none, and the number beside it, 0 when refused.
 #[repr(C)]
@@ -81,4 +86,55 @@ pub extern "C" fn canyonsieve_months_early(
     let refusal = refusal_number(answer);
     let months = signed(answer);
     MonthsFigure { refusal, months }
+}
+
+// The employer's final pay charge in pence, from the ten numbers of a final pay frame.
+#[no_mangle]
+pub extern "C" fn canyonsieve_charge(
+    pay4: u64,
+    pay3: u64,
+    pay2: u64,
+    pay1: u64,
+    allowance3: u64,
+    allowance2: u64,
+    allowance1: u64,
+    controls: u64,
+    days: u64,
+    factor: u64,
+) -> Figure
+    ensures refusal { λ r. ⌜ r .refusal ≡ finalPayRefusal (finalPayOf pay4 pay3 pay2 pay1 allowance3 allowance2 allowance1 controls days factor) ⌝ }
+    ensures number { λ r. ⌜ r .number ≡ numberUnless (finalPayRefusal (finalPayOf pay4 pay3 pay2 pay1 allowance3 allowance2 allowance1 controls days factor)) (charge (finalPayOf pay4 pay3 pay2 pay1 allowance3 allowance2 allowance1 controls days factor)) ⌝ }
+{
+    let f = FinalPay {
+        pay4: Pence(pay4),
+        pay3: Pence(pay3),
+        pay2: Pence(pay2),
+        pay1: Pence(pay1),
+        allowance3,
+        allowance2,
+        allowance1,
+        controls,
+        days,
+        factor,
+    };
+    figure_of(charge_call(f))
+}
+
+// The reduction of a pension on new pay, in pence.
+#[no_mangle]
+pub extern "C" fn canyonsieve_abatement(
+    pension: u64,
+    earned: u64,
+    previous_pay: u64,
+    new_pay: u64,
+) -> Figure
+    ensures refusal { λ r. ⌜ r .refusal ≡ abatementRefusal pension earned «previous_pay» «new_pay» ⌝ }
+    ensures number { λ r. ⌜ r .number ≡ numberUnless (abatementRefusal pension earned «previous_pay» «new_pay») (abatement pension earned «previous_pay» «new_pay») ⌝ }
+{
+    figure_of(abatement_call(
+        Pence(pension),
+        Pence(earned),
+        Pence(previous_pay),
+        Pence(new_pay),
+    ))
 }

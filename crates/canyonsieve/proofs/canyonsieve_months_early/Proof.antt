@@ -2,7 +2,6 @@
 use mathlib.Core.Path.{_∙_}
 use mir.Facts.{toZ-ofZ}
 use borrow.Author.Needs.{needs}
-use native.Mathlib.Omega.{arith}
 use Rattle.canyonsieve.proofs.canyonsieve_months_early.Statement.{statement}
 use Rattle.canyonsieve.proofs.canyonsieve_months_early.Tie as tie
 

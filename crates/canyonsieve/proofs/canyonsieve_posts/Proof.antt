@@ -2,7 +2,6 @@
 use Rattle.posts.specs.Call.{callAnswer}
 use Rattle.canyonsieve.proofs.Given.{given-refusal, given-number}
 use borrow.Author.Needs.{needs}
-use native.Mathlib.Omega.{arith}
 use Rattle.canyonsieve.proofs.canyonsieve_posts.Statement.{statement}
 use Rattle.canyonsieve.proofs.canyonsieve_posts.Tie as tie
 

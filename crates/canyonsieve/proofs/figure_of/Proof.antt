@@ -2,7 +2,6 @@
 use mathlib.Core.Path.{refl}
 use Rattle.measures.specs.Answers.{refusalOf, amountOf}
 use borrow.Author.Needs.{needs}
-use native.Mathlib.Omega.{arith}
 use Rattle.canyonsieve.proofs.figure_of.Statement.{statement}
 use Rattle.canyonsieve.proofs.figure_of.Tie as tie
 

@@ -1,5 +1,5 @@
 -- `posts::YearPosts::allocate` meets its contract: the invariant is `Upto`, the parts and the pay of the posts passed.
-use mathlib.Core.Path.{refl, sym, _∙_}
+use mathlib.Core.Path.{refl}
 use native.Mathlib.Nat.{le-trans, le-of-eq}
 use Prim.Native.Nat.{_-_}
 use Rattle.posts.proofs.Standing.{place-stands, minutes-few, minutes-some}

@@ -5,7 +5,6 @@ use mathlib.Core.List.{List, _++_}
 use lib.ListN.{drop}
 use Rattle.posts.proofs.Standing.{posts-count}
 use borrow.Author.Needs.{needs}
-use native.Mathlib.Omega.{arith}
 use Rattle.posts.proofs.call.allocate_into.Statement.{statement}
 use Rattle.posts.proofs.call.allocate_into.Tie as tie
 

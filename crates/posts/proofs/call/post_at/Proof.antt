@@ -1,7 +1,6 @@
 -- `posts::call::post_at` meets its contract.
 use Rattle.posts.specs.Call.{postAt}
 use borrow.Author.Needs.{needs}
-use native.Mathlib.Omega.{arith}
 use Rattle.posts.proofs.call.post_at.Statement.{statement}
 use Rattle.posts.proofs.call.post_at.Tie as tie
 

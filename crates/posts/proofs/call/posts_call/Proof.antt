@@ -1,5 +1,5 @@
 -- `posts::call::posts_call` meets its contract.
-use mathlib.Core.Path.{refl, sym, _∙_, ap}
+use mathlib.Core.Path.{sym, _∙_, ap}
 use Prim.Native.Nat.{_/_}
 use mathlib.Core.List.{List, _++_}
 use lib.ListN.{length, drop}

@@ -1,9 +1,7 @@
 -- `posts::rates::compare_rates` meets its contract.
-use mathlib.Core.Path.{sym}
 use borrow.Author.Tests.{lt-ltb, le-ltb}
 use Rattle.posts.specs.Rates.{comparison}
 use Rattle.posts.proofs.Standing.{standing}
-use borrow.Author.Needs.{needs}
 use native.Mathlib.Omega.{arith}
 use Rattle.posts.proofs.rates.compare_rates.Statement.{statement}
 use Rattle.posts.proofs.rates.compare_rates.Tie as tie

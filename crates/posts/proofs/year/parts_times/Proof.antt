@@ -1,7 +1,6 @@
 -- `posts::year::parts_times` meets its contract.
 use Rattle.measures.proofs.Products.{product}
 use borrow.Author.Needs.{needs}
-use native.Mathlib.Omega.{arith}
 use Rattle.posts.proofs.year.parts_times.Statement.{statement}
 use Rattle.posts.proofs.year.parts_times.Tie as tie
 

@@ -3,7 +3,6 @@ use mathlib.Core.Path.{_∙_, ap₂}
 use native.Mathlib.Nat.{le-trans, le-of-eq}
 use Rattle.measures.specs.Rounding.{rounded}
 use Rattle.posts.proofs.Standing.{standing, parts-some, pay-full, pay-most-for, part-fits}
-use borrow.Author.Needs.{needs}
 use native.Mathlib.Omega.{arith}
 use Rattle.posts.proofs.year.pay_for.Statement.{statement}
 use Rattle.posts.proofs.year.pay_for.Tie as tie

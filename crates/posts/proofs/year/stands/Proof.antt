@@ -1,8 +1,6 @@
 -- `posts::year::stands` meets its contract.
 use Rattle.measures.proofs.Tests.{tests}
 use Rattle.posts.specs.Refusals.{postStands}
-use borrow.Author.Needs.{needs}
-use native.Mathlib.Omega.{arith}
 use Rattle.posts.proofs.year.stands.Statement.{statement}
 use Rattle.posts.proofs.year.stands.Tie as tie
 

@@ -1,0 +1,6 @@
+pub mod Monotone
+pub mod Limits
+pub mod Ceiling
+pub mod Highest
+pub mod Accepted
+pub mod Starred

@@ -1,0 +1,89 @@
+-- How large each step's result is, so that code works in 64 bits.
+use Prim.Native.Nat.{ℕ, _*_, _^_, _≤_, _<_}
+use mathlib.Core.Bool.{Bool, true, false, cond}
+use native.Mathlib.Nat.{mul-le-mul, le-refl}
+use native.Mathlib.Omega.{arith}
+use Rattle.measures.specs.Rounding.{rounded}
+use Rattle.measures.proofs.Rounding.{rounded-bound}
+use Rattle.benefits.specs.declared.FinalPay.{FinalPay}
+use Rattle.benefits.specs.Steps.{revalued, accrued, finalPay, fullService, sectionPension, lumpSum, reduced, pensionDebit, lumpDebit, controlled, raised, allowed3, allowed2, allowed1, excess, excessPension, chargeFrom, charge, enhancement, abatement}
+use Rattle.benefits.specs.Bounds.{FinalPayBounds}
+use Rattle.benefits.proofs.Monotone.{rise}
+
+pub revalued-limit : (p r : ℕ) → p ≤ 2 ^ 50 → r ≤ 2000 → revalued p r ≤ 2 ^ 51
+unfolding revalued
+revalued-limit p r h k = rounded-bound _ (2 ^ 51) 10000 (omega arith) (omega (arith, rise 10000 h k))
+
+pub accrued-limit : (a : ℕ) → a ≤ 16000000000 → accrued a ≤ 296296296
+unfolding accrued rounded
+accrued-limit a h = omega arith
+
+-- for any limit on the pay, so that a pay and an excess share it: 16,425 days of 29,200 are 9/16
+pub sectionPension-limit : (k pay days : ℕ) → pay ≤ 16 * k → days ≤ 16425 → sectionPension pay days ≤ 9 * k
+unfolding sectionPension
+sectionPension-limit k pay days h d = rounded-bound _ (9 * k) fullService (omega arith) (omega (arith, mul-le-mul h d))
+
+-- the 1995 pension and lump sum of an accepted final pay
+pub section-limit : (pay days : ℕ) → pay ≤ 1000000000 → days ≤ 16425 → sectionPension pay days ≤ 562500000
+section-limit pay days h d = sectionPension-limit 62500000 pay days h d
+
+pub lump-limit : (pension : ℕ) → pension ≤ 562500000 → lumpSum pension ≤ 1687500000
+unfolding lumpSum
+lump-limit pension h = omega arith
+
+pub reduced-limit : (amount factor : ℕ) → factor ≤ 1000 → reduced amount factor ≤ amount
+unfolding reduced
+reduced-limit amount factor h = rounded-bound _ amount 1000 (omega arith) (mul-le-mul (le-refl amount) h)
+
+pub debit-limit : (pot factor : ℕ) → pot ≤ 1000000000 → 0 < factor → pensionDebit pot factor ≤ 100000000000
+unfolding pensionDebit
+debit-limit pot factor h k = rounded-bound _ 100000000000 factor k (omega arith)
+
+pub lump-debit-limit : (debit : ℕ) → debit ≤ 100000000000 → lumpDebit debit ≤ 300000000000
+unfolding lumpDebit
+lump-debit-limit debit h = omega arith
+
+pub raised-limit : (pay allowance : ℕ) → allowance ≤ 1000 → raised pay allowance ≤ 2 * pay
+unfolding raised
+raised-limit pay allowance h = rounded-bound _ (2 * pay) 1000 (omega arith) (omega (arith, rise 1000 (le-refl pay) h))
+
+-- a year's allowed pay, controlled or not
+allowed-limit : (t : Bool) (base allowance pay : ℕ) → base ≤ 1000000000 → allowance ≤ 1000 → pay ≤ 1000000000 → cond t (raised base allowance) pay ≤ 2000000000
+allowed-limit true base allowance pay h k l = omega (arith, raised-limit base allowance k)
+allowed-limit false base allowance pay h k l = omega arith
+
+module _ (f : FinalPay) (h : FinalPayBounds f) where
+  pub finalPay-limit : finalPay f ≤ 1000000000
+  unfolding finalPay
+  finalPay-limit = omega arith
+
+  pub excess-limit : excess f ≤ 1000000000
+  unfolding excess
+  excess-limit = omega (arith, finalPay-limit)
+
+  pub allowed3-limit : allowed3 f ≤ 2000000000
+  unfolding allowed3
+  allowed3-limit = allowed-limit (controlled (f .controls) 3) _ _ _ (h .pay4) (h .allowance3) (h .pay3)
+
+  pub allowed2-limit : allowed2 f ≤ 2000000000
+  unfolding allowed2
+  allowed2-limit = allowed-limit (controlled (f .controls) 2) _ _ _ (omega arith) (h .allowance2) (h .pay2)
+
+  pub allowed1-limit : allowed1 f ≤ 2000000000
+  unfolding allowed1
+  allowed1-limit = allowed-limit (controlled (f .controls) 1) _ _ _ (omega arith) (h .allowance1) (h .pay1)
+
+-- for any limit on the excess
+pub chargeFrom-limit : (k over days factor : ℕ) → over ≤ 16 * k → days ≤ 16425 → factor ≤ 10000 → chargeFrom over days factor ≤ 927 * k
+unfolding chargeFrom excessPension
+chargeFrom-limit k over days factor h d g =
+    let times : rounded (sectionPension over days * factor) 100 ≤ sectionPension over days * 100 = rounded-bound _ _ 100 (omega arith) (omega (arith, mul-le-mul (le-refl (sectionPension over days)) g)) in
+    omega (arith, sectionPension-limit k over days h d)
+
+pub charge-limit : (f : FinalPay) → FinalPayBounds f → charge f ≤ 57937500000
+unfolding charge
+charge-limit f h = chargeFrom-limit 62500000 (excess f) (f .days) (f .factor) (excess-limit f h) (h .days) (h .factor)
+
+pub abatement-limit : (pension earned previous new : ℕ) → abatement pension earned previous new ≤ pension
+unfolding abatement enhancement
+abatement-limit pension earned previous new = omega arith

@@ -1,0 +1,23 @@
+-- `benefits::revalued` meets its contract: the product fits, and measures rounds it.
+use native.Mathlib.Omega.{arith}
+use borrow.Author.Needs.{needs}
+use Rattle.benefits.specs.Steps.{revalued}
+use Rattle.benefits.proofs.Monotone.{rise}
+use Rattle.benefits.proofs.revalued.Statement.{statement}
+use Rattle.benefits.proofs.revalued.Tie as tie
+
+add-rounded : tie.Need-add-rounded
+add-rounded c = search needs
+
+mul-rounded : tie.Need-mul-rounded
+mul-rounded c = omega (arith, rise 10000 (c .before .pre .0) (c .before .pre .1))
+
+rounded-requires : tie.Need-rounded-requires
+rounded-requires c κs = search needs
+
+returns : tie.Need-returns
+unfolding revalued
+returns c = c .rounded .ensures
+
+pub revalued-spec : {M : Type 1} → statement M
+revalued-spec = tie.close (tie.spec add-rounded mul-rounded rounded-requires returns)

@@ -1,0 +1,170 @@
+-- Document 01's steps on amounts, in its order: years, final pay, reduction, debit, charge, abatement. Amounts are in pence.
+use Prim.Native.Nat.{ℕ, _+_, _*_, _-_, _/_, _%_, _^_, min, max}
+use mathlib.Core.Bool.{Bool, _&&_, cond}
+use lib.Dec.{leb, eqb}
+use Rattle.measures.specs.Rounding.{rounded}
+use Rattle.measures.specs.Refusals.{within, unless, first}
+use Rattle.measures.specs.Answers.{answerOf}
+use Rattle.measures.specs.declared.Answer.{Answer}
+use Rattle.benefits.specs.declared.FinalPay.{FinalPay}
+use Rattle.benefits.specs.declared.BestPay.{BestPay}
+
+-- Years
+
+-- "rounded(pension × (10,000 + r)/10,000)"; "r is that year's revaluation in ten-thousandths"
+unfoldable pub revalued : ℕ → ℕ → ℕ
+revalued pension r = rounded (pension * (10000 + r)) 10000
+
+-- "rounded(aggregate/54)"
+unfoldable pub accrued : ℕ → ℕ
+accrued aggregate = rounded aggregate 54
+
+-- "For each year in order it becomes rounded(pension × (10,000 + r)/10,000) + rounded(aggregate/54)"
+unfoldable pub afterYear : ℕ → ℕ → ℕ → ℕ
+afterYear pension r aggregate = revalued pension r + accrued aggregate
+
+-- Final pay
+
+-- what belongs to year 3, 2 or 1: "year 1 being the last"
+abbrev pub ofYear : {A : Type 0} → ℕ → A → A → A → A
+ofYear year three two one = cond (eqb year 3) three (cond (eqb year 2) two one)
+
+-- the pay of year 3, 2 or 1
+abbrev pub payIn : FinalPay → ℕ → ℕ
+payIn f year = ofYear year (f .pay3 .0) (f .pay2 .0) (f .pay1 .0)
+
+-- "Final pay is the highest of years 3 to 1"
+unfoldable pub finalPay : FinalPay → ℕ
+finalPay f = max (f .pay3 .0) (max (f .pay2 .0) (f .pay1 .0))
+
+-- "of equals, the later year"
+unfoldable pub finalYear : FinalPay → ℕ
+finalYear f = cond (eqb (f .pay1 .0) (finalPay f)) 1 (cond (eqb (f .pay2 .0) (finalPay f)) 2 3)
+
+-- final pay with its year
+unfoldable pub bestPay : FinalPay → BestPay
+bestPay f = record { pay = record { 0 = finalPay f }; year = finalYear f }
+
+-- the days of service that earn a pension of the whole final pay
+abbrev pub fullService : ℕ
+fullService = 29200
+
+-- "The 1995 pension is rounded(final pay × service days/29,200)"
+unfoldable pub sectionPension : ℕ → ℕ → ℕ
+sectionPension pay days = rounded (pay * days) fullService
+
+-- the lump sum for each penny of 1995 pension
+abbrev pub lumpTimes : ℕ
+lumpTimes = 3
+
+-- "the lump sum 3 times that"
+unfoldable pub lumpSum : ℕ → ℕ
+lumpSum pension = lumpTimes * pension
+
+-- Reduction
+
+-- "pension and lump sum become rounded(amount × factor/1,000)"
+unfoldable pub reduced : ℕ → ℕ → ℕ
+reduced amount factor = rounded (amount * factor) 1000
+
+-- Debit
+
+-- "Pension debit = rounded(pot × 100/factor in hundredths)"
+unfoldable pub pensionDebit : ℕ → ℕ → ℕ
+pensionDebit pot factor = rounded (pot * 100) factor
+
+-- "lump debit in the 1995 Section = 3 times it"
+unfoldable pub lumpDebit : ℕ → ℕ
+lumpDebit debit = lumpTimes * debit
+
+-- Charge
+
+-- whether the bit at a place is 1
+abbrev pub bit : ℕ → ℕ → Bool
+bit controls place = eqb (controls / 2 ^ place % 2) 1
+
+-- "controls 1 (bits 0, 1, 2 for years 3, 2, 1)"
+unfoldable pub controlled : ℕ → ℕ → Bool
+controlled controls year = ofYear year (bit controls 0) (bit controls 1) (bit controls 2)
+
+-- a pay with an allowance of a thousandths: "× (1,000 + a)/1,000", rounded
+unfoldable pub raised : ℕ → ℕ → ℕ
+raised pay allowance = rounded (pay * (1000 + allowance)) 1000
+
+-- "Allowed year 3 = rounded(pay 4 × (1,000 + a)/1,000)." "A year whose control bit is 0 has its pay as allowed."
+unfoldable pub allowed3 : FinalPay → ℕ
+allowed3 f = cond (controlled (f .controls) 3) (raised (f .pay4 .0) (f .allowance3)) (f .pay3 .0)
+
+-- "Allowed year 2 applies its own a to the lower of pay 3 and allowed 3;"
+unfoldable pub allowed2 : FinalPay → ℕ
+allowed2 f = cond (controlled (f .controls) 2) (raised (min (f .pay3 .0) (allowed3 f)) (f .allowance2)) (f .pay2 .0)
+
+-- "allowed year 1 likewise to year 2."
+unfoldable pub allowed1 : FinalPay → ℕ
+allowed1 f = cond (controlled (f .controls) 1) (raised (min (f .pay2 .0) (allowed2 f)) (f .allowance1)) (f .pay1 .0)
+
+-- "that year's allowed"
+unfoldable pub allowedIn : FinalPay → ℕ → ℕ
+allowedIn f year = ofYear year (allowed3 f) (allowed2 f) (allowed1 f)
+
+-- "Excess = final pay less that year's allowed, not below 0." "Excess in year 2 or 3 is not indexed."
+unfoldable pub excess : FinalPay → ℕ
+excess f = finalPay f - allowedIn f (finalYear f)
+
+-- "Excess pension = rounded(excess × days/29,200)."
+unfoldable pub excessPension : ℕ → ℕ → ℕ
+excessPension over days = sectionPension over days
+
+-- "Charge = rounded(excess pension × factor/100) + 3 × excess pension."
+unfoldable pub chargeFrom : ℕ → ℕ → ℕ → ℕ
+chargeFrom over days factor = rounded (excessPension over days * factor) 100 + lumpTimes * excessPension over days
+
+-- the employer's final pay charge
+unfoldable pub charge : FinalPay → ℕ
+charge f = chargeFrom (excess f) (f .days) (f .factor)
+
+-- Abatement
+
+-- "Enhancement = pension − earned pension."
+unfoldable pub enhancement : ℕ → ℕ → ℕ
+enhancement pension earned = pension - earned
+
+-- "Reduction = new pay + enhancement − previous pay, not below 0 and not above enhancement."
+unfoldable pub abatement : ℕ → ℕ → ℕ → ℕ → ℕ
+abatement pension earned previous new =
+    min ((new + enhancement pension earned) - previous) (enhancement pension earned)
+
+-- When each part declines
+
+-- "a pay above 1,000,000,000," turned round
+unfoldable pub paysWithin : FinalPay → Bool
+paysWithin f = leb (f .pay4 .0) 1000000000 && leb (f .pay3 .0) 1000000000 && leb (f .pay2 .0) 1000000000 && leb (f .pay1 .0) 1000000000
+
+-- "allowance above 1,000, controls above 7, days above 16,425, factor 0 or above 10,000." turned round
+unfoldable pub termsWithin : FinalPay → Bool
+termsWithin f =
+    leb (f .allowance3) 1000 && leb (f .allowance2) 1000 && leb (f .allowance1) 1000 && leb (f .controls) 7
+    && leb (f .days) 16425 && within 1 10000 (f .factor)
+
+-- "9, a pay above .., factor 0 or above 10,000."
+unfoldable pub finalPayRefusal : FinalPay → ℕ
+finalPayRefusal f = unless (paysWithin f && termsWithin f) 9
+
+-- "an amount above 1,000,000,000,000;" turned round
+unfoldable pub amountsWithin : ℕ → ℕ → ℕ → ℕ → Bool
+amountsWithin pension earned previous new =
+    leb pension 1000000000000 && leb earned 1000000000000 && leb previous 1000000000000 && leb new 1000000000000
+
+-- "24, an amount above 1,000,000,000,000; 25, earned above pension."
+unfoldable pub abatementRefusal : ℕ → ℕ → ℕ → ℕ → ℕ
+abatementRefusal pension earned previous new =
+    first (unless (amountsWithin pension earned previous new) 24) (unless (leb earned pension) 25)
+
+-- "Charge apart: 9." "Each of these calls .. gives 0 for its number when refused."
+unfoldable pub chargeAnswer : FinalPay → Answer
+chargeAnswer f = answerOf (finalPayRefusal f) (charge f)
+
+-- "Abatement apart: 24, an amount above ..; 25, earned above pension."
+unfoldable pub abatementAnswer : ℕ → ℕ → ℕ → ℕ → Answer
+abatementAnswer pension earned previous new =
+    answerOf (abatementRefusal pension earned previous new) (abatement pension earned previous new)

@@ -1,0 +1,377 @@
+// The steps on amounts: the pension of the years, final pay, reduction, debits, the final pay charge and abatement.
+use measures::Answer;
+use measures::Pence;
+ghost use mathlib.Core.Path.{_≡_};
+ghost use Prim.Native.Nat.{_-_, _^_, _≤_, _<_, min, max};
+ghost use Rattle.benefits.specs.Steps.{revalued, accrued, afterYear, bestPay, sectionPension, lumpSum, reduced, pensionDebit, lumpDebit, controlled, raised, allowed3, allowed2, allowed1, allowedIn, excess, chargeFrom, charge, abatement, paysWithin, termsWithin, finalPayRefusal, abatementRefusal, chargeAnswer, abatementAnswer};
+ghost use Rattle.benefits.specs.Bounds.{FinalPayBounds};
+
+// The days of service that earn a 1995 pension of the whole final pay.
+const FULL_SERVICE: u64 = 29200;
+
+// The lump sum for each penny of 1995 pension.
+const LUMP_TIMES: u64 = 3;
+
+// The ten numbers of a final pay frame: the pays of years 4 to 1, year 1 the last; allowances in
+// thousandths; controls, bits 0, 1, 2 for years 3, 2, 1; service days; the factor in hundredths.
+pub struct FinalPay {
+    pub pay4: Pence,
+    pub pay3: Pence,
+    pub pay2: Pence,
+    pub pay1: Pence,
+    pub allowance3: u64,
+    pub allowance2: u64,
+    pub allowance1: u64,
+    pub controls: u64,
+    pub days: u64,
+    pub factor: u64,
+}
+
+// Final pay with its year.
+pub struct BestPay {
+    pub pay: Pence,
+    pub year: u64,
+}
+
+// The higher of two amounts.
+fn higher(one: Pence, other: Pence) -> Pence
+    ensures { λ r. ⌜ r .0 ≡ max (one .0) (other .0) ⌝ }
+{
+    if one.0 < other.0 {
+        return other;
+    }
+    one
+}
+
+// The lower of two amounts.
+fn lower(one: Pence, other: Pence) -> Pence
+    ensures { λ r. ⌜ r .0 ≡ min (one .0) (other .0) ⌝ }
+{
+    if other.0 < one.0 {
+        return other;
+    }
+    one
+}
+
+// One amount less another, not below 0.
+fn less(one: Pence, other: Pence) -> Pence
+    ensures { λ r. ⌜ r .0 ≡ one .0 - other .0 ⌝ }
+{
+    if one.0 < other.0 {
+        return Pence(0);
+    }
+    Pence(one.0 - other.0)
+}
+
+// The pension revalued by ten-thousandths.
+pub fn revalued(pension: Pence, revaluation: u64) -> Pence
+    requires { ⌜ (pension .0 ≤ 2 ^ 50) × (revaluation ≤ 2000) ⌝ }
+    ensures { λ r. ⌜ r .0 ≡ revalued (pension .0) revaluation ⌝ }
+{
+    Pence(measures::rounded(pension.0 * (10000 + revaluation), 10000))
+}
+
+// The pension that a year's aggregate earns.
+pub fn accrued(aggregate: Pence) -> Pence
+    ensures { λ r. ⌜ r .0 ≡ accrued (aggregate .0) ⌝ }
+{
+    Pence(measures::rounded(aggregate.0, 54))
+}
+
+// The pension after one more year.
+pub fn after_year(pension: Pence, revaluation: u64, aggregate: Pence) -> Pence
+    requires { ⌜ (pension .0 ≤ 2 ^ 50) × (revaluation ≤ 2000) × (aggregate .0 ≤ 16000000000) ⌝ }
+    ensures { λ r. ⌜ r .0 ≡ afterYear (pension .0) revaluation (aggregate .0) ⌝ }
+{
+    let old = revalued(pension, revaluation);
+    let new = accrued(aggregate);
+    Pence(old.0 + new.0)
+}
+
+// The highest pay of years 3 to 1 and its year; of equals the later.
+pub fn final_pay(f: FinalPay) -> BestPay
+    ensures { λ r. ⌜ r ≡ bestPay f ⌝ }
+{
+    let year3 = f.pay3;
+    let year2 = f.pay2;
+    let year1 = f.pay1;
+    let earlier = higher(year3, year2);
+    if earlier.0 <= year1.0 {
+        return BestPay {
+            pay: year1,
+            year: 1,
+        };
+    }
+    if year3.0 <= year2.0 {
+        return BestPay {
+            pay: year2,
+            year: 2,
+        };
+    }
+    BestPay {
+        pay: year3,
+        year: 3,
+    }
+}
+
+// The 1995 pension of a final pay.
+pub fn section_pension(pay: Pence, days: u64) -> Pence
+    requires { ⌜ (pay .0 ≤ 1000000000000) × (days ≤ 16425) ⌝ }
+    ensures { λ r. ⌜ r .0 ≡ sectionPension (pay .0) days ⌝ }
+{
+    Pence(measures::rounded(pay.0 * days, FULL_SERVICE))
+}
+
+// The lump sum that goes with a 1995 pension.
+pub fn lump_sum(pension: Pence) -> Pence
+    requires { ⌜ pension .0 ≤ 1000000000000 ⌝ }
+    ensures { λ r. ⌜ r .0 ≡ lumpSum (pension .0) ⌝ }
+{
+    Pence(LUMP_TIMES * pension.0)
+}
+
+// An amount reduced for early payment by a factor in thousandths.
+pub fn reduced(amount: Pence, factor: u64) -> Pence
+    requires { ⌜ (amount .0 ≤ 2 ^ 50) × (factor ≤ 1000) ⌝ }
+    ensures { λ r. ⌜ r .0 ≡ reduced (amount .0) factor ⌝ }
+{
+    Pence(measures::rounded(amount.0 * factor, 1000))
+}
+
+// The debit on a pension for a pot, by a factor in hundredths.
+pub fn pension_debit(pot: Pence, factor: u64) -> Pence
+    requires { ⌜ (pot .0 ≤ 1000000000) × (0 < factor) ⌝ }
+    ensures { λ r. ⌜ r .0 ≡ pensionDebit (pot .0) factor ⌝ }
+{
+    Pence(measures::rounded(pot.0 * 100, factor))
+}
+
+// The debit on the lump sum that goes with a debit on a 1995 pension.
+pub fn lump_debit(debit: Pence) -> Pence
+    requires { ⌜ debit .0 ≤ 1000000000000 ⌝ }
+    ensures { λ r. ⌜ r .0 ≡ lumpDebit (debit .0) ⌝ }
+{
+    Pence(LUMP_TIMES * debit.0)
+}
+
+// Whether a year's control bit is 1.
+fn controlled(controls: u64, year: u64) -> bool
+    ensures { λ r. ⌜ r ≡ controlled controls year ⌝ }
+{
+    if year == 3 {
+        return controls % 2 == 1;
+    }
+    if year == 2 {
+        return controls / 2 % 2 == 1;
+    }
+    controls / 4 % 2 == 1
+}
+
+// A pay raised by an allowance in thousandths.
+fn raised(pay: Pence, allowance: u64) -> Pence
+    requires { ⌜ (pay .0 ≤ 1000000000000) × (allowance ≤ 1000) ⌝ }
+    ensures { λ r. ⌜ r .0 ≡ raised (pay .0) allowance ⌝ }
+{
+    Pence(measures::rounded(pay.0 * (1000 + allowance), 1000))
+}
+
+// The allowed pay of year 3.
+fn allowed3(f: FinalPay) -> Pence
+    requires { ⌜ FinalPayBounds f ⌝ }
+    ensures { λ r. ⌜ r .0 ≡ allowed3 f ⌝ }
+{
+    let pay4 = f.pay4;
+    let pay3 = f.pay3;
+    if controlled(f.controls, 3) {
+        return raised(pay4, f.allowance3);
+    }
+    pay3
+}
+
+// The allowed pay of year 2.
+fn allowed2(f: FinalPay) -> Pence
+    requires { ⌜ FinalPayBounds f ⌝ }
+    ensures { λ r. ⌜ r .0 ≡ allowed2 f ⌝ }
+{
+    let pay3 = f.pay3;
+    let pay2 = f.pay2;
+    let before = allowed3(f);
+    if controlled(f.controls, 2) {
+        return raised(lower(pay3, before), f.allowance2);
+    }
+    pay2
+}
+
+// The allowed pay of year 1.
+fn allowed1(f: FinalPay) -> Pence
+    requires { ⌜ FinalPayBounds f ⌝ }
+    ensures { λ r. ⌜ r .0 ≡ allowed1 f ⌝ }
+{
+    let pay2 = f.pay2;
+    let pay1 = f.pay1;
+    let before = allowed2(f);
+    if controlled(f.controls, 1) {
+        return raised(lower(pay2, before), f.allowance1);
+    }
+    pay1
+}
+
+// The allowed pay of year 3, 2 or 1.
+fn allowed_in(f: FinalPay, year: u64) -> Pence
+    requires { ⌜ FinalPayBounds f ⌝ }
+    ensures { λ r. ⌜ r .0 ≡ allowedIn f year ⌝ }
+{
+    if year == 3 {
+        return allowed3(f);
+    }
+    if year == 2 {
+        return allowed2(f);
+    }
+    allowed1(f)
+}
+
+// Final pay less the allowed pay of its year.
+pub fn excess(f: FinalPay) -> Pence
+    requires { ⌜ FinalPayBounds f ⌝ }
+    ensures { λ r. ⌜ r .0 ≡ excess f ⌝ }
+{
+    let best = final_pay(f);
+    let pay = best.pay;
+    less(pay, allowed_in(f, best.year))
+}
+
+// The employer's charge for an excess, by service days and a factor in hundredths.
+pub fn charge_from(excess: Pence, days: u64, factor: u64) -> Pence
+    requires { ⌜ (excess .0 ≤ 1000000000000) × (days ≤ 16425) × (factor ≤ 10000) ⌝ }
+    ensures { λ r. ⌜ r .0 ≡ chargeFrom (excess .0) days factor ⌝ }
+{
+    let pension = section_pension(excess, days);
+    let lump = lump_sum(pension);
+    Pence(measures::rounded(pension.0 * factor, 100) + lump.0)
+}
+
+// The employer's final pay charge.
+pub fn charge(f: FinalPay) -> Pence
+    requires { ⌜ FinalPayBounds f ⌝ }
+    ensures { λ r. ⌜ r .0 ≡ charge f ⌝ }
+{
+    charge_from(excess(f), f.days, f.factor)
+}
+
+// The reduction of a pension for new pay.
+pub fn abated(pension: Pence, earned: Pence, previous: Pence, new: Pence) -> Pence
+    requires { ⌜ (pension .0 ≤ 1000000000000) × (new .0 ≤ 1000000000000) ⌝ }
+    ensures { λ r. ⌜ r .0 ≡ abatement (pension .0) (earned .0) (previous .0) (new .0) ⌝ }
+{
+    let enhancement = less(pension, earned);
+    let income = Pence(new.0 + enhancement.0);
+    lower(less(income, previous), enhancement)
+}
+
+// Whether no pay is too high.
+fn pays_within(f: FinalPay) -> bool
+    ensures { λ r. ⌜ r ≡ paysWithin f ⌝ }
+{
+    let pay4 = f.pay4;
+    let pay3 = f.pay3;
+    let pay2 = f.pay2;
+    let pay1 = f.pay1;
+    if 1000000000 < pay4.0 {
+        return false;
+    }
+    if 1000000000 < pay3.0 {
+        return false;
+    }
+    if 1000000000 < pay2.0 {
+        return false;
+    }
+    if 1000000000 < pay1.0 {
+        return false;
+    }
+    true
+}
+
+// Whether no other number of a final pay frame is out of range.
+fn terms_within(f: FinalPay) -> bool
+    ensures { λ r. ⌜ r ≡ termsWithin f ⌝ }
+{
+    if 1000 < f.allowance3 {
+        return false;
+    }
+    if 1000 < f.allowance2 {
+        return false;
+    }
+    if 1000 < f.allowance1 {
+        return false;
+    }
+    if 7 < f.controls {
+        return false;
+    }
+    if 16425 < f.days {
+        return false;
+    }
+    if f.factor < 1 {
+        return false;
+    }
+    if 10000 < f.factor {
+        return false;
+    }
+    true
+}
+
+// The refusal of a final pay frame's numbers: 9, or 0 for none.
+pub fn final_pay_refusal(f: FinalPay) -> u64
+    ensures { λ r. ⌜ r ≡ finalPayRefusal f ⌝ }
+{
+    if !pays_within(f) {
+        return 9;
+    }
+    if !terms_within(f) {
+        return 9;
+    }
+    0
+}
+
+// The refusal of an abatement: 24, 25, or 0 for none.
+pub fn abatement_refusal(pension: Pence, earned: Pence, previous: Pence, new: Pence) -> u64
+    ensures { λ r. ⌜ r ≡ abatementRefusal (pension .0) (earned .0) (previous .0) (new .0) ⌝ }
+{
+    if 1000000000000 < pension.0 {
+        return 24;
+    }
+    if 1000000000000 < earned.0 {
+        return 24;
+    }
+    if 1000000000000 < previous.0 {
+        return 24;
+    }
+    if 1000000000000 < new.0 {
+        return 24;
+    }
+    if pension.0 < earned.0 {
+        return 25;
+    }
+    0
+}
+
+// The charge apart from a case.
+pub fn charge_call(f: FinalPay) -> Answer
+    ensures { λ r. ⌜ r ≡ chargeAnswer f ⌝ }
+{
+    let refusal = final_pay_refusal(f);
+    if refusal != 0 {
+        return Answer::Refused(refusal);
+    }
+    Answer::Amount(charge(f))
+}
+
+// Abatement apart from a case.
+pub fn abatement_call(pension: Pence, earned: Pence, previous: Pence, new: Pence) -> Answer
+    ensures { λ r. ⌜ r ≡ abatementAnswer (pension .0) (earned .0) (previous .0) (new .0) ⌝ }
+{
+    let refusal = abatement_refusal(pension, earned, previous, new);
+    if refusal != 0 {
+        return Answer::Refused(refusal);
+    }
+    Answer::Amount(abated(pension, earned, previous, new))
+}
