@@ -13,13 +13,13 @@ use borrow.Author.Tests.{ltb-true, lt-ltb, le-ltb}
 use Rattle.measures.specs.Rounding.{rounded}
 use Rattle.measures.specs.Refusals.{unless}
 use Rattle.measures.proofs.Rounding.{rounded-whole, rounded-bound}
-use Rattle.measures.proofs.Tests.{parts, passed, neither, and-left, and-right}
+use Rattle.measures.proofs.Tests.{parts as tested, passed, neither, and-left, and-right}
 use Rattle.posts.specs.declared.Post.{Post}
 use Rattle.posts.specs.declared.YearPosts.{YearPosts}
-use Rattle.posts.specs.Posts.{h, w, p, contractedMinutes, weightedParts, wholeTime, anyWholeTime}
+use Rattle.posts.specs.Posts.{h, w, p, contractedMinutes, weightedParts, wholeTime, anyWholeTime, parts, aggregatePay}
 use Rattle.posts.specs.Refusals.{postStands, postRefusal}
 use Rattle.posts.specs.Year.{noPost, postsOf, AllStand, Held, joinedBy}
-use Rattle.posts.proofs.Aggregate.{Worked, payTotal}
+use Rattle.posts.proofs.Aggregate.{Worked, payTotal, aggregate-bound, parts-within}
 
 -- the limits of refusal 7
 pub record Standing (x : Post) : Type 0 where
@@ -30,7 +30,7 @@ pub record Standing (x : Post) : Type 0 where
 
 pub standing : (x : Post) → postStands x ≡ true → Standing x
 unfolding postStands
-standing x e = record { some = search parts; within = search parts; week = search parts; paid = search parts }
+standing x e = record { some = search tested; within = search tested; week = search tested; paid = search tested }
 
 -- ---- lists of posts that stand
 
@@ -55,12 +55,17 @@ unfolding payTotal
 pay-most [] a = omega arith
 pay-most (x ∷ xs) a = let s = standing x (a .0) in omega (arith, pay-most xs (a .1))
 
+-- a year's aggregate is at most sixteen posts at the highest pay
+pub aggregate-most : (xs : List Post) → AllStand xs → length xs ≤ 16 → aggregatePay xs ≤ 16000000000
+unfolding aggregatePay
+aggregate-most xs a few = omega (arith, aggregate-bound xs (parts xs) (stand-worked xs a) (parts-within xs), pay-most xs a)
+
 stand-at : (xs : List Post) (i : ℕ) → AllStand xs → i < length xs → postStands (getD xs i noPost) ≡ true
 stand-at [] i a g = absurd (not-suc-le-zero g)
 stand-at (x ∷ xs) zero a g = a .0
 stand-at (x ∷ xs) (suc i) a g = stand-at xs i (a .1) (le-of-suc-le-suc g)
 
-stand-end : (xs : List Post) (x : Post) → AllStand xs → postStands x ≡ true → AllStand (xs ++ x ∷ [])
+pub stand-end : (xs : List Post) (x : Post) → AllStand xs → postStands x ≡ true → AllStand (xs ++ x ∷ [])
 stand-end [] x a e = (e, tt)
 stand-end (y ∷ xs) x a e = (a .0, stand-end xs x (a .1) e)
 

@@ -1,0 +1,92 @@
+-- What the methods of the running case promise, from the equations of the code with the state; demand 3 for the running case.
+use Prim.Native.Nat.{ℕ}
+use mathlib.Core.Path.{_≡_, refl, sym, _∙_, ap, subst}
+use mathlib.Core.List.{List, [], _∷_, _++_}
+use native.Mathlib.Omega.{arith}
+use Rattle.measures.specs.Tries.{tried, after}
+use Rattle.measures.proofs.Trying.{tried-refused}
+use Rattle.posts.proofs.Standing.{stand-worked}
+use Rattle.frames.specs.declared.Frame.{Frame}
+use Rattle.frames.specs.declared.Decoded.{Decoded}
+use Rattle.cases.specs.declared.Amounts.{Amounts}
+use Rattle.cases.specs.declared.Outcome.{Outcome}
+use Rattle.cases.specs.declared.Case.{Case}
+use Rattle.cases.specs.declared.Taken.{Taken}
+use Rattle.cases.specs.Rules.{WorkedYear, Kept, nothing, begun, decodedAll, kept}
+use Rattle.cases.specs.Working.{answerOf}
+use Rattle.cases.specs.Rivals.{Largest}
+use Rattle.cases.specs.State.{start, takenFrame, refusalOfCase, nextOfCase, takenDecoded, afterAll, outcomeOf, Bounds}
+use Rattle.cases.specs.Running.{IsCase, TakenFrom, ClosedAfter}
+use Rattle.cases.proofs.Represents.{Represents, GoodYear, All}
+use Rattle.cases.proofs.Bridge.{refusal-agrees, represents, after-one-more}
+use Rattle.cases.proofs.Answer.{closing-agrees}
+use Rattle.cases.proofs.Largest.{AllWorked, largest-kept}
+use Rattle.cases.proofs.Widths.{represented-bounds}
+
+-- ---- demand 3 for the running case
+
+all-worked : (ys : List WorkedYear) → All GoodYear ys → AllWorked ys
+all-worked [] g = tt
+all-worked (y ∷ ys) g = (stand-worked (y .posts) (g .0 .posts), all-worked ys (g .1))
+
+largest-of : (k : Kept) (c : Case) (a : Amounts) → Represents c k → answerOf k ≡ Outcome.Worked a → Largest k a
+unfolding answerOf
+largest-of nothing c a h e = absurd (let z : _≡_ {A = ℕ} 0 1 = cc in let y : ⊥ = omega arith in y)
+largest-of (begun k) c a h e = largest-kept k a (all-worked (k .years) (h .1 .years)) e
+
+-- Over every list of frames, refused ones included, of any length: where the closing is not refused, the amounts given are the largest of the frames kept.
+pub largest-decoded : (ds : List Decoded) (a : Amounts) → outcomeOf (afterAll ds) ≡ Outcome.Worked a → Largest (kept ds) a
+largest-decoded ds a e =
+    let h = represents ds in
+    largest-of (kept ds) (afterAll ds) a h (sym (closing-agrees (afterAll ds) (kept ds) h) ∙ e)
+
+-- the same of raw frames, bytes that are no frame among them
+pub largest-running : (raws : List (List ℕ)) (a : Amounts) → outcomeOf (afterAll (decodedAll raws)) ≡ Outcome.Worked a → Largest (kept (decodedAll raws)) a
+largest-running raws a e = largest-decoded (decodedAll raws) a e
+
+pub answer-running : (ds : List Decoded) → outcomeOf (afterAll ds) ≡ answerOf (kept ds)
+answer-running ds = closing-agrees (afterAll ds) (kept ds) (represents ds)
+
+-- ---- the methods
+
+pub started : (c : Case) → c ≡ start → IsCase c × (c ≡ afterAll [])
+unfolding afterAll after
+started c e = (record { frames = []; is = e }, e)
+
+-- a frame taken, and bytes that are none
+pub frame-taken : (c : Case) (f : Frame) → takenFrame c f ≡ takenDecoded c (Decoded.Frame f)
+unfolding takenFrame takenDecoded refusalOfCase nextOfCase tried
+frame-taken c f = refl
+
+pub no-frame-taken : (c : Case) (number : ℕ) → number ≡ 3 → record { case = c; refusal = 3 } ≡ takenDecoded c (Decoded.Refused number)
+unfolding takenDecoded refusalOfCase nextOfCase tried
+no-frame-taken c number e = rw e refl
+
+pub taken-from : (c : Case) (d : Decoded) (t : Taken) → IsCase c → t ≡ takenDecoded c d → TakenFrom c d t
+unfolding takenDecoded
+taken-from c d t is e =
+    record {
+      isCase = record { frames = is .frames ++ d ∷ []; is = handed (is .frames) (is .is) };
+      after = λ frames q.
+          record {
+            refusal = ap (λ (u : Taken). u .refusal) e ∙ ap (λ (z : Case). refusalOfCase z d) q ∙ refusal-agrees (afterAll frames) (kept frames) d (represents frames);
+            case = handed frames q;
+            unchanged = λ n. ap (λ (u : Taken). u .case) e ∙ tried-refused refusalOfCase nextOfCase c d (λ z. n (ap (λ (u : Taken). u .refusal) e ∙ z));
+          };
+    }
+  where
+    handed : (frames : List Decoded) → c ≡ afterAll frames → t .case ≡ afterAll (frames ++ d ∷ [])
+    handed frames q = ap (λ (u : Taken). u .case) e ∙ ap (λ (z : Case). tried refusalOfCase nextOfCase z d) q ∙ sym (after-one-more frames d)
+
+pub closed-after : (c : Case) (o : Outcome) → o ≡ outcomeOf c → (frames : List Decoded) → c ≡ afterAll frames → ClosedAfter frames o
+closed-after c o e frames q =
+    record {
+      answer = same ∙ answer-running frames;
+      largest = λ a w. largest-decoded frames a (sym same ∙ w);
+    }
+  where
+    same : o ≡ outcomeOf (afterAll frames)
+    same = e ∙ ap outcomeOf q
+
+pub case-bounds : (c : Case) → IsCase c → Bounds c
+case-bounds c is = subst Bounds (sym (is .is)) (represented-bounds (afterAll (is .frames)) (kept (is .frames)) (represents (is .frames)))

@@ -1,0 +1,5 @@
+pub mod Rules
+pub mod Working
+pub mod Rivals
+pub mod State
+pub mod Running

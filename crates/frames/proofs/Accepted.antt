@@ -1,0 +1,97 @@
+-- What the fields of a frame that is not refused keep to.
+use Prim.Native.Nat.{ℕ, _≤_}
+use mathlib.Core.Bool.{Bool, true, false, _&&_, _||_, not}
+use mathlib.Core.Path.{_≡_, refl}
+use native.Mathlib.Omega.{arith}
+use lib.Dec.{leb, eqb}
+use borrow.Author.Tests.{eqb-true, eq-eqb}
+use Rattle.measures.specs.Refusals.{within}
+use Rattle.measures.proofs.Tests.{passed, parts, neither}
+use Rattle.calendar.specs.Dates.{datesRefusal, Accepted}
+use Rattle.calendar.proofs.AcceptedDates.{accepted, accepted-age}
+use Rattle.frames.specs.declared.Member.{Member}
+use Rattle.frames.specs.declared.Year.{Year}
+use Rattle.frames.specs.declared.Factor.{Factor}
+use Rattle.frames.specs.declared.Debit.{Debit}
+use Rattle.frames.specs.Limits.{memberRefusal, yearStands, schemeStands, factorRefusal, debitRefusal}
+
+-- a member without refusal 5
+pub record MemberGood (m : Member) : Type 0 where
+  pub dates : Accepted (m .birth) (m .retirement)
+  pub section : m .section ≤ 1
+  pub age-from : 55 ≤ m .age
+  pub age-to : m .age ≤ 75
+
+pub member-good : (m : Member) → memberRefusal m ≡ 0 → MemberGood m
+unfolding memberRefusal
+member-good m e =
+    let none = neither (datesRefusal (m .birth) (m .retirement) (m .age)) _ e in
+    let section : leb (m .section) 1 ≡ true = passed _ 5 (omega arith) (none .1) in
+    let age = accepted-age _ _ _ (none .0) in
+    record { dates = accepted _ _ _ (none .0); section = search parts; age-from = age .0; age-to = age .1 }
+
+-- a year whose own fields stand
+pub record YearGood (y : Year) : Type 0 where
+  pub april-from : 2015 ≤ y .april
+  pub april-to : y .april ≤ 2100
+  pub revaluation : y .revaluation ≤ 2000
+
+pub year-good : (y : Year) → yearStands y ≡ true → YearGood y
+unfolding yearStands
+year-good y e = record { april-from = search parts; april-to = search parts; revaluation = search parts }
+
+-- a scheme that stands beside the member's section
+pub record SchemeGood (scheme section : ℕ) : Type 0 where
+  pub known : scheme ≤ 1
+  pub own : scheme ≡ 1 → section ≡ 1
+
+pub scheme-good : (scheme section : ℕ) → schemeStands scheme section ≡ true → SchemeGood scheme section
+unfolding schemeStands
+scheme-good scheme section e = by (eqb scheme 0) refl e
+  where
+    other : scheme ≡ 0 → scheme ≡ 1 → section ≡ 1
+    other none one = absurd (let z : ⊥ = omega arith in z)
+
+    by : (t : Bool) → eqb scheme 0 ≡ t → (t || (eqb scheme 1 && eqb section 1)) ≡ true → SchemeGood scheme section
+    by true q e =
+        let none : scheme ≡ 0 = eqb-true _ _ q in
+        record { known = omega arith; own = other none }
+    by false q e =
+        let one : scheme ≡ 1 = search parts in
+        let own : section ≡ 1 = search parts in
+        record { known = omega arith; own = λ _. own }
+
+-- a factor frame without refusal 10
+pub record FactorGood (f : Factor) (section : ℕ) : Type 0 where
+  pub scheme : SchemeGood (f .scheme) section
+  pub months-from : 1 ≤ f .months .0
+  pub months-to : f .months .0 ≤ 600
+  pub pension : f .pension ≤ 1000
+  pub lump : f .lump ≤ 1000
+  pub no-lump : f .scheme ≡ 0 → f .lump ≡ 0
+
+pub factor-good : (f : Factor) (section : ℕ) → factorRefusal f section ≡ 0 → FactorGood f section
+unfolding factorRefusal
+factor-good f section e =
+    let held : (schemeStands (f .scheme) section && within 1 600 (f .months .0) && leb (f .pension) 1000 && leb (f .lump) 1000 && (not (eqb (f .scheme) 0) || eqb (f .lump) 0)) ≡ true = passed _ 10 (omega arith) e in
+    let lumped : (not (eqb (f .scheme) 0) || eqb (f .lump) 0) ≡ true = search parts in
+    record {
+      scheme = scheme-good _ _ (search parts);
+      months-from = search parts;
+      months-to = search parts;
+      pension = search parts;
+      lump = search parts;
+      no-lump = λ none. eqb-true _ _ (rw (eq-eqb (f .scheme) 0 none) at lumped);
+    }
+
+-- a debit frame without refusal 11
+pub record DebitGood (d : Debit) (section : ℕ) : Type 0 where
+  pub scheme : SchemeGood (d .scheme) section
+  pub pot : d .pot .0 ≤ 1000000000
+  pub factor : 1 ≤ d .factor
+
+pub debit-good : (d : Debit) (section : ℕ) → debitRefusal d section ≡ 0 → DebitGood d section
+unfolding debitRefusal
+debit-good d section e =
+    let held : (schemeStands (d .scheme) section && leb (d .pot .0) 1000000000 && leb 1 (d .factor)) ≡ true = passed _ 11 (omega arith) e in
+    record { scheme = scheme-good _ _ (search parts); pot = search parts; factor = search parts }

@@ -1,0 +1,51 @@
+-- What bytes decode to.
+use Prim.Native.Nat.{ℕ}
+use mathlib.Core.List.{List, [], _∷_}
+use mathlib.Core.Bool.{Bool, true, false, cond}
+use mathlib.Core.Path.{_≡_, refl}
+use native.Mathlib.Omega.{arith}
+use lib.Dec.{eqb}
+use lib.ListN.{length}
+use Rattle.fields.specs.Fields.{oneAt}
+use Rattle.frames.specs.declared.Frame.{Frame}
+use Rattle.frames.specs.declared.Decoded.{Decoded}
+use Rattle.frames.specs.Frames.{memberIn, yearIn, postIn, finalPayIn, factorIn, debitIn, frameLength, frameOf, kindOf, decoded}
+
+-- no byte is no known kind
+pub no-bytes : (bytes : List ℕ) → length bytes ≡ 0 → decoded bytes ≡ Decoded.Refused 3
+unfolding decoded frameLength frameOf oneAt
+no-bytes [] e = refl
+no-bytes (b ∷ bytes) e = absurd (let z : ⊥ = omega arith in z)
+
+-- bytes that are no frame are refused by 3 and by nothing else
+pub decoded-three : (bytes : List ℕ) (number : ℕ) → decoded bytes ≡ Decoded.Refused number → number ≡ 3
+unfolding decoded frameOf
+decoded-three bytes number e =
+    by (eqb (length bytes) (frameLength (kindOf bytes))) (eqb (kindOf bytes) 1) (eqb (kindOf bytes) 2) (eqb (kindOf bytes) 3) (eqb (kindOf bytes) 4) (eqb (kindOf bytes) 5) (eqb (kindOf bytes) 6) e
+  where
+    never : (f : Frame) → Decoded.Frame f ≡ Decoded.Refused number → number ≡ 3
+    never f e = absurd (let z : _≡_ {A = ℕ} 0 1 = cc in let y : ⊥ = omega arith in y)
+
+    three : Decoded.Refused 3 ≡ Decoded.Refused number → number ≡ 3
+    three e = cc
+
+    by : (a b c d e f g : Bool)
+        → cond a
+        (cond b (Decoded.Frame (Frame.Member (memberIn bytes)))
+        (cond c (Decoded.Frame (Frame.Year (yearIn bytes)))
+        (cond d (Decoded.Frame (Frame.Post (postIn bytes)))
+        (cond e (Decoded.Frame (Frame.FinalPay (finalPayIn bytes)))
+        (cond f (Decoded.Frame (Frame.Factor (factorIn bytes)))
+        (cond g (Decoded.Frame (Frame.Debit (debitIn bytes)))
+        (Decoded.Refused 3)))))))
+        (Decoded.Refused 3)
+        ≡ Decoded.Refused number
+        → number ≡ 3
+    by false b c d e f g p = three p
+    by true true c d e f g p = never _ p
+    by true false true d e f g p = never _ p
+    by true false false true e f g p = never _ p
+    by true false false false true f g p = never _ p
+    by true false false false false true g p = never _ p
+    by true false false false false false true p = never _ p
+    by true false false false false false false p = three p

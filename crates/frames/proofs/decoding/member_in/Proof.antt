@@ -1,0 +1,26 @@
+-- `frames::decoding::member_in` meets its contract: each field at its place.
+use Rattle.frames.specs.Frames.{memberIn}
+use borrow.Author.Needs.{needs}
+use Rattle.frames.proofs.decoding.member_in.Statement.{statement}
+use Rattle.frames.proofs.decoding.member_in.Tie as tie
+
+date-at-requires : tie.Need-date-at-requires
+date-at-requires c κs = search needs
+
+date-at-requires-2 : tie.Need-date-at-requires-2
+date-at-requires-2 c κs = search needs
+
+one-at-requires : tie.Need-one-at-requires
+one-at-requires c κs = search needs
+
+one-at-requires-2 : tie.Need-one-at-requires-2
+one-at-requires-2 c κs = search needs
+
+returns : tie.Need-returns
+unfolding memberIn
+returns c = cc (c .one-at2 .ensures .0, c .before .one-at .ensures .0, c .before .before .date-at2 .ensures, c .before .before .before .date-at .ensures)
+
+pub member-in-spec : {M : Type 1} → statement M
+member-in-spec =
+    tie.close
+    (tie.spec date-at-requires date-at-requires-2 one-at-requires one-at-requires-2 returns)

@@ -1,0 +1,60 @@
+// The frames of a case: six kinds, each with its own fields.
+use benefits::FinalPay;
+use calendar::Date;
+use measures::Months;
+use measures::Pence;
+use posts::Post;
+
+mod decoding;
+mod limits;
+
+pub use decoding::decode;
+pub use limits::debit_refusal;
+pub use limits::factor_refusal;
+pub use limits::member_refusal;
+pub use limits::year_stands;
+
+// A member: birth and retirement, the section (0 none, 1 the 1995), the pension age in years.
+pub struct Member {
+    pub birth: Date,
+    pub retirement: Date,
+    pub section: u64,
+    pub age: u64,
+}
+
+// A year: the calendar year of its 1 April, and its revaluation in ten-thousandths.
+pub struct Year {
+    pub april: u64,
+    pub revaluation: u64,
+}
+
+// The factors of a scheme (0 the 2015, 1 the 1995) for so many months early, in thousandths.
+pub struct Factor {
+    pub scheme: u64,
+    pub months: Months,
+    pub pension: u64,
+    pub lump: u64,
+}
+
+// A Scheme Pays debit on a scheme: its pot, and its factor in hundredths.
+pub struct Debit {
+    pub scheme: u64,
+    pub pot: Pence,
+    pub factor: u64,
+}
+
+// A frame, one of the six kinds.
+pub enum Frame {
+    Member(Member),
+    Year(Year),
+    Post(Post),
+    FinalPay(FinalPay),
+    Factor(Factor),
+    Debit(Debit),
+}
+
+// What bytes decode to: a frame, or the number of their refusal.
+pub enum Decoded {
+    Frame(Frame),
+    Refused(u64),
+}

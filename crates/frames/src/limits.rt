@@ -1,0 +1,95 @@
+// The refusals of a frame's fields, by the frame itself and the member's section.
+use super::Debit;
+use super::Factor;
+use super::Member;
+use super::Year;
+use calendar::dates_refusal;
+ghost use mathlib.Core.Path.{_≡_};
+ghost use Rattle.frames.specs.Limits.{memberRefusal, yearStands, schemeStands, factorRefusal, debitRefusal};
+
+// 5 where a date, the pension age or the section of a member is out of its range; else 0.
+pub fn member_refusal(m: Member) -> u64
+    ensures { λ r. ⌜ r ≡ memberRefusal m ⌝ }
+{
+    let refusal = dates_refusal(m.birth, m.retirement, m.age);
+    if refusal != 0 {
+        return refusal;
+    }
+    if 1 < m.section {
+        return 5;
+    }
+    0
+}
+
+// Whether the fields of a year stand by themselves (6 otherwise).
+pub fn year_stands(y: Year) -> bool
+    ensures { λ r. ⌜ r ≡ yearStands y ⌝ }
+{
+    if y.april < 2015 {
+        return false;
+    }
+    if 2100 < y.april {
+        return false;
+    }
+    if 2000 < y.revaluation {
+        return false;
+    }
+    true
+}
+
+// Whether a scheme is the 2015, or the 1995 of a member with that section.
+fn scheme_stands(scheme: u64, section: u64) -> bool
+    ensures { λ r. ⌜ r ≡ schemeStands scheme section ⌝ }
+{
+    if scheme == 0 {
+        return true;
+    }
+    if scheme != 1 {
+        return false;
+    }
+    section == 1
+}
+
+// 10 where a field of a factor frame is out of its range; else 0.
+pub fn factor_refusal(f: Factor, section: u64) -> u64
+    ensures { λ r. ⌜ r ≡ factorRefusal f section ⌝ }
+{
+    if !scheme_stands(f.scheme, section) {
+        return 10;
+    }
+    if f.months.0 < 1 {
+        return 10;
+    }
+    if 600 < f.months.0 {
+        return 10;
+    }
+    if 1000 < f.pension {
+        return 10;
+    }
+    if 1000 < f.lump {
+        return 10;
+    }
+    if f.scheme != 0 {
+        return 0;
+    }
+    if f.lump != 0 {
+        return 10;
+    }
+    0
+}
+
+// 11 where a field of a debit frame is out of its range; else 0.
+pub fn debit_refusal(d: Debit, section: u64) -> u64
+    ensures { λ r. ⌜ r ≡ debitRefusal d section ⌝ }
+{
+    if !scheme_stands(d.scheme, section) {
+        return 11;
+    }
+    if 1000000000 < d.pot.0 {
+        return 11;
+    }
+    if d.factor < 1 {
+        return 11;
+    }
+    0
+}
