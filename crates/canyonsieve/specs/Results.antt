@@ -1,7 +1,11 @@
--- The numbers that C passes, as the records of the paper.
+-- The numbers that C passes, as the records of the paper, and an outcome in the numbers that C gets.
 use Prim.Native.Nat.{ℕ}
+use mathlib.Core.Path.{_≡_}
 use Rattle.calendar.specs.declared.Date.{Date}
 use Rattle.benefits.specs.declared.FinalPay.{FinalPay}
+use Rattle.cases.specs.declared.Outcome.{Outcome}
+use Rattle.cases.specs.Working.{numberOf, lineOf, amountsGiven}
+use Rattle.canyonsieve.specs.declared.CaseFigures.{CaseFigures}
 
 abbrev pub dateOf : ℕ → ℕ → ℕ → Date
 dateOf year month day = record { year = year; month = month; day = day }
@@ -20,3 +24,12 @@ finalPayOf pay4 pay3 pay2 pay1 allowance3 allowance2 allowance1 controls days fa
       days = days;
       factor = factor;
     }
+
+-- every field of what C gets: the refusal with its line, and the amounts, noughts when refused
+pub record Flat (o : Outcome) (r : CaseFigures) : Type 0 where
+  pub refusal : r .refusal ≡ numberOf o
+  pub line : r .line ≡ lineOf o
+  pub net2015 : r .«net_2015» ≡ amountsGiven o .«net_2015» .0
+  pub net1995 : r .«net_1995» ≡ amountsGiven o .«net_1995» .0
+  pub netLumpSum : r .«net_lump_sum» ≡ amountsGiven o .«net_lump_sum» .0
+  pub charge : r .charge ≡ amountsGiven o .charge .0

@@ -6,9 +6,11 @@ use calendar::Date;
 use calendar::dates_call;
 use calendar::refusal_number;
 use calendar::signed;
+use cases::Outcome;
 use measures::Answer;
 use measures::Pence;
 use posts::posts_call;
+use texts::work_text;
 ghost use mathlib.Core.Path.{_≡_};
 ghost use lib.ListN.{length};
 ghost use Rattle.measures.specs.Answers.{refusalOf, amountOf, numberUnless};
@@ -16,7 +18,11 @@ ghost use Rattle.calendar.specs.Dates.{datesRefusal, datesNumber};
 ghost use Rattle.posts.specs.Posts.{aggregatePay};
 ghost use Rattle.posts.specs.Call.{postsIn, callRefusal, placesAfter};
 ghost use Rattle.benefits.specs.Steps.{finalPayRefusal, charge, abatementRefusal, abatement};
-ghost use Rattle.canyonsieve.specs.Results.{dateOf, finalPayOf};
+ghost use Rattle.cases.specs.Rules.{kept};
+ghost use Rattle.cases.specs.Working.{numberOf, lineOf, amountsGiven};
+ghost use Rattle.cases.specs.Rivals.{Largest};
+ghost use Rattle.texts.specs.Text.{framesOf, workText};
+ghost use Rattle.canyonsieve.specs.Results.{dateOf, finalPayOf, Flat};
 
 // A refusal, 0 for none, and the number beside it, 0 when refused.
 #[repr(C)]
@@ -30,6 +36,17 @@ pub struct Figure {
 pub struct MonthsFigure {
     pub refusal: u64,
     pub months: i64,
+}
+
+// A refusal with its line, 0 for none, and the amounts in pence, all 0 when refused.
+#[repr(C)]
+pub struct CaseFigures {
+    pub refusal: u64,
+    pub line: u64,
+    pub net_2015: u64,
+    pub net_1995: u64,
+    pub net_lump_sum: u64,
+    pub charge: u64,
 }
 
 // The refusal and the number of an answer.
@@ -137,4 +154,37 @@ pub extern "C" fn canyonsieve_abatement(
         Pence(previous_pay),
         Pence(new_pay),
     ))
+}
+
+// The numbers of an outcome.
+fn case_figures(outcome: Outcome) -> CaseFigures
+    ensures { λ r. ⌜ Flat outcome r ⌝ }
+{
+    match outcome {
+        Outcome::Worked(a) => CaseFigures {
+            refusal: 0,
+            line: 0,
+            net_2015: a.net_2015.0,
+            net_1995: a.net_1995.0,
+            net_lump_sum: a.net_lump_sum.0,
+            charge: a.charge.0,
+        },
+        Outcome::Refused(r) => CaseFigures {
+            refusal: r.number,
+            line: r.line,
+            net_2015: 0,
+            net_1995: 0,
+            net_lump_sum: 0,
+            charge: 0,
+        },
+    }
+}
+
+// A whole case in a text.
+#[no_mangle]
+pub extern "C" fn canyonsieve_case(text: &[u8]) -> CaseFigures
+    ensures figures { λ r. ⌜ Flat (workText (now (text .entry))) r ⌝ }
+    ensures largest { λ r. ⌜ (r .refusal ≡ 0 → Largest (kept (framesOf (now (text .entry)))) (amountsGiven (workText (now (text .entry))))) ⌝ }
+{
+    case_figures(work_text(text))
 }

@@ -1,0 +1,109 @@
+-- Demand 3 for texts, by that of the running case; and a text beside the running case that is given its frames one by one.
+use Prim.Native.Nat.{ℕ, _+_}
+use mathlib.Core.Path.{_≡_, refl, sym, _∙_, ap}
+use mathlib.Core.List.{List, [], _∷_, _++_}
+use mathlib.Core.Bool.{Bool, true, false, cond}
+use native.Mathlib.Omega.{arith}
+use lib.Dec.{ltb, eqb}
+use lib.ListN.{length}
+use borrow.Author.Tests.{eqb-true, eqb-false}
+use Rattle.measures.specs.Tries.{tried, after, Unrefused, done, more}
+use Rattle.measures.proofs.Trying.{after-join}
+use Rattle.frames.specs.declared.Decoded.{Decoded}
+use Rattle.cases.specs.declared.Amounts.{Amounts}
+use Rattle.cases.specs.declared.Refusal.{Refusal}
+use Rattle.cases.specs.declared.Outcome.{Outcome}
+use Rattle.cases.specs.declared.Case.{Case}
+use Rattle.cases.specs.Rules.{Kept, nothing, begun, refusalOfDecoded, keepDecoded, kept}
+use Rattle.cases.specs.Working.{closingOf, amountsOf, workedUnless, answerOf, numberOf, amountsGiven}
+use Rattle.cases.specs.Rivals.{Largest}
+use Rattle.cases.specs.State.{refusalOfCase, nextOfCase, afterAll, outcomeOf}
+use Rattle.cases.proofs.Represents.{Represents}
+use Rattle.cases.proofs.Bridge.{represents, refusal-agrees, after-one-more}
+use Rattle.cases.proofs.Answer.{closing-agrees}
+use Rattle.cases.proofs.Contracts.{largest-decoded, answer-running}
+use Rattle.texts.specs.Text.{framesOf, readFrom, workText, TextWorked}
+
+never : {A : Type 0} (r : Refusal) (a : Amounts) → _≡_ {A = Outcome} (Outcome.Refused r) (Outcome.Worked a) → A
+never r a e = absurd (let z : _≡_ {A = ℕ} 0 1 = cc in let y : ⊥ = omega arith in y)
+
+-- a worked text had nothing refused, and its answer is that of the frames kept
+record Read (k : Kept) (ds : List Decoded) (a : Amounts) : Type 0 where
+  unrefused : Unrefused refusalOfDecoded keepDecoded k ds
+  answer : answerOf (after refusalOfDecoded keepDecoded k ds) ≡ Outcome.Worked a
+
+read-worked : (k : Kept) (line : ℕ) (ds : List Decoded) (a : Amounts) → readFrom k line ds ≡ Outcome.Worked a → Read k ds a
+unfolding readFrom after tried
+read-worked k line [] a e = record { unrefused = done; answer = e }
+read-worked k line (d ∷ ds) a e = by (eqb (refusalOfDecoded k d) 0) refl (λ (q : readFrom (keepDecoded k d) (line + 1) ds ≡ Outcome.Worked a). read-worked (keepDecoded k d) (line + 1) ds a q) e
+  where
+    by : (t : Bool) → eqb (refusalOfDecoded k d) 0 ≡ t
+        → (readFrom (keepDecoded k d) (line + 1) ds ≡ Outcome.Worked a → Read (keepDecoded k d) ds a)
+        → cond t (readFrom (keepDecoded k d) (line + 1) ds) (Outcome.Refused (record { number = refusalOfDecoded k d; line = line })) ≡ Outcome.Worked a
+        → Read k (d ∷ ds) a
+    by true q next e =
+        let r = next e in
+        record { unrefused = more (eqb-true _ 0 q) (r .unrefused); answer = rw q (r .answer) }
+    by false q next e = never _ a e
+
+text-read : (text : List ℕ) (a : Amounts) → workText text ≡ Outcome.Worked a → Read nothing (framesOf text) a
+unfolding workText
+text-read text a e = by (ltb 32768 (length text)) e
+  where
+    by : (t : Bool) → cond t (Outcome.Refused (record { number = 1; line = 0 })) (readFrom nothing 1 (framesOf text)) ≡ Outcome.Worked a → Read nothing (framesOf text) a
+    by true e = never _ a e
+    by false e = read-worked nothing 1 (framesOf text) a e
+
+-- every frame of a worked text is kept
+pub text-unrefused : (text : List ℕ) (a : Amounts) → workText text ≡ Outcome.Worked a → Unrefused refusalOfDecoded keepDecoded nothing (framesOf text)
+text-unrefused text a e = text-read text a e .unrefused
+
+-- a worked text has the amounts of the running case that is given its frames one by one and closed
+pub text-running : (text : List ℕ) (a : Amounts) → workText text ≡ Outcome.Worked a → outcomeOf (afterAll (framesOf text)) ≡ Outcome.Worked a
+unfolding kept
+text-running text a e = answer-running (framesOf text) ∙ text-read text a e .answer
+
+-- For every text that is not refused, no rival working of its frames has more.
+pub largest-text : (text : List ℕ) (a : Amounts) → workText text ≡ Outcome.Worked a → Largest (kept (framesOf text)) a
+largest-text text a e = largest-decoded (framesOf text) a (text-running text a e)
+
+pub text-worked : (text : List ℕ) (o : Outcome) → o ≡ workText text → TextWorked text o
+text-worked text o e = record { is = e; largest = λ a w. largest-text text a (sym e ∙ w) }
+
+-- ---- a refusal has a number
+
+abbrev pub Numbered : Outcome → Type 0
+Numbered (Outcome.Worked a) = Unit {0}
+Numbered (Outcome.Refused r) = r .number ≡ 0 → ⊥
+
+numbered-unless : (number line : ℕ) (o : Outcome) (t : Bool) → eqb number 0 ≡ t → Numbered o → Numbered (cond t o (Outcome.Refused (record { number = number; line = line })))
+numbered-unless number line o true e n = n
+numbered-unless number line o false e n = eqb-false number 0 e
+
+answer-numbered : (k : Kept) → Numbered (answerOf k)
+unfolding answerOf workedUnless
+answer-numbered nothing = λ e. let z : ⊥ = omega arith in z
+answer-numbered (begun k) = numbered-unless (closingOf (begun k)) 0 (Outcome.Worked (amountsOf k)) (eqb (closingOf (begun k)) 0) refl tt
+
+read-numbered : (k : Kept) (line : ℕ) (ds : List Decoded) → Numbered (readFrom k line ds)
+unfolding readFrom
+read-numbered k line [] = answer-numbered k
+read-numbered k line (d ∷ ds) =
+    numbered-unless (refusalOfDecoded k d) line (readFrom (keepDecoded k d) (line + 1) ds) (eqb (refusalOfDecoded k d) 0) refl (read-numbered (keepDecoded k d) (line + 1) ds)
+
+pub text-numbered : (text : List ℕ) → Numbered (workText text)
+unfolding workText
+text-numbered text = by (ltb 32768 (length text))
+  where
+    by : (t : Bool) → Numbered (cond t (Outcome.Refused (record { number = 1; line = 0 })) (readFrom nothing 1 (framesOf text)))
+    by true = λ e. let z : ⊥ = omega arith in z
+    by false = read-numbered nothing 1 (framesOf text)
+
+-- so a text without a refusal is worked, and its amounts are the largest
+pub largest-given : (text : List ℕ) → numberOf (workText text) ≡ 0 → Largest (kept (framesOf text)) (amountsGiven (workText text))
+unfolding numberOf amountsGiven
+largest-given text e = by (workText text) refl (text-numbered text) e
+  where
+    by : (o : Outcome) → workText text ≡ o → Numbered o → numberOf o ≡ 0 → Largest (kept (framesOf text)) (amountsGiven o)
+    by (Outcome.Worked a) q n z = largest-text text a q
+    by (Outcome.Refused r) q n z = absurd (n z)

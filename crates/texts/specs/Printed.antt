@@ -1,0 +1,37 @@
+-- "prints one line in the same digits, ended by 0A"
+use Prim.Native.Nat.{ℕ, zero, suc, _+_, _/_, _%_}
+use mathlib.Core.Path.{_≡_}
+use mathlib.Core.Bool.{cond}
+use mathlib.Core.List.{List, [], _∷_, _++_}
+use lib.Dec.{ltb}
+use lib.ListN.{length, take}
+use Rattle.cases.specs.declared.Outcome.{Outcome}
+use Rattle.texts.specs.declared.PrintedLine.{PrintedLine}
+
+-- the character of a digit: 0-9 from 48 on, A-F from 65 on
+unfoldable pub characterOf : ℕ → ℕ
+characterOf digit = cond (ltb digit 10) (48 + digit) (55 + digit)
+
+-- the last so many digits of a number, the highest first
+unfoldable pub digitsOf : ℕ → ℕ → List ℕ
+digitsOf zero number = []
+digitsOf (suc count) number = digitsOf count (number / 16) ++ characterOf (number % 16) ∷ []
+
+-- two digits to a byte
+abbrev pub bytesOfWidth : ℕ → ℕ → List ℕ
+bytesOfWidth width number = digitsOf (width + width) number
+
+-- "80, then net 2015 pension, net 1995 pension, net lump sum, charge, 8 bytes each; or EE, refusal 1 byte, line 2 bytes"
+unfoldable pub printedOf : Outcome → List ℕ
+printedOf (Outcome.Worked a) =
+    bytesOfWidth 1 0x80
+    ++ (bytesOfWidth 8 (a .«net_2015» .0)
+    ++ (bytesOfWidth 8 (a .«net_1995» .0)
+    ++ (bytesOfWidth 8 (a .«net_lump_sum» .0)
+    ++ (bytesOfWidth 8 (a .charge .0) ++ (10 ∷ [])))))
+printedOf (Outcome.Refused r) = bytesOfWidth 1 0xEE ++ (bytesOfWidth 1 (r .number) ++ (bytesOfWidth 2 (r .line) ++ (10 ∷ [])))
+
+-- the line that is printed: so many of the bytes, and each of them
+pub record Printed (o : Outcome) (p : PrintedLine) : Type 0 where
+  pub count : p .count ≡ length (printedOf o)
+  pub bytes : take (p .count) (p .bytes) ≡ printedOf o

@@ -1,0 +1,16 @@
+// The reading of a text, and the printed line.
+mod reading;
+
+pub use reading::work_text;
+
+// A character of a line: a digit with its value, or another character.
+pub enum Digit {
+    Value(u8),
+    Other,
+}
+
+// A printed line: the first `count` of its bytes.
+pub struct PrintedLine {
+    pub bytes: [u8; 67],
+    pub count: usize,
+}

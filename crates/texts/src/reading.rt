@@ -1,0 +1,100 @@
+// A text read line by line into a running case.
+use super::Digit;
+use cases::Case;
+use cases::Outcome;
+use cases::Refusal;
+use frames::Decoded;
+use frames::decode;
+ghost use mathlib.Core.Path.{_≡_};
+ghost use Rattle.texts.specs.Text.{digitOf, TextWorked};
+
+// The value of a digit 0-9 or A-F.
+fn read_digit(x: u8) -> Digit
+    ensures { λ r. ⌜ r ≡ digitOf x ⌝ }
+{
+    if x < 48 {
+        return Digit::Other;
+    }
+    if x <= 57 {
+        return Digit::Value(x - 48);
+    }
+    if x < 65 {
+        return Digit::Other;
+    }
+    if x <= 70 {
+        return Digit::Value(x - 55);
+    }
+    Digit::Other
+}
+
+// What a text comes to: the amounts of its case, or the refusal of the first offending line.
+pub fn work_text(text: &[u8]) -> Outcome
+    ensures { λ r. ⌜ TextWorked (now (text .entry)) r ⌝ }
+{
+    if 32768 < text.len() {
+        return Outcome::Refused(Refusal { number: 1, line: 0 });
+    }
+    let mut case = Case::start();
+    let mut number: u64 = 0;
+    let mut line: u64 = 0;
+    let mut at: usize = 0;
+    'lines: loop {
+        if text.len() <= at {
+            return case.close();
+        }
+        line += 1;
+        // The bytes of the line, of which as many are kept as the longest frame has.
+        let mut bytes = [0u8; 28];
+        let mut n: usize = 0;
+        // The first digit of a byte, 16 where none waits.
+        let mut high: u8 = 16;
+        loop {
+            if text.len() <= at {
+                number = 2;
+                break 'lines;
+            }
+            let x = text[at];
+            at += 1;
+            if x == 10 {
+                break;
+            }
+            let Digit::Value(v) = read_digit(x) else {
+                number = 2;
+                break 'lines;
+            };
+            if high == 16 {
+                high = v;
+            } else {
+                if n < 28 {
+                    bytes[n] = high * 16 + v;
+                }
+                n += 1;
+                high = 16;
+            }
+        }
+        if high != 16 {
+            number = 2;
+            break 'lines;
+        }
+        if n == 0 {
+            number = 2;
+            break 'lines;
+        }
+        if 28 < n {
+            number = 3;
+            break 'lines;
+        }
+        let Decoded::Frame(frame) = decode(&bytes[..n]) else {
+            number = 3;
+            break 'lines;
+        };
+        let taken = case.take_frame(frame);
+        if taken.refusal != 0 {
+            number = taken.refusal;
+            break 'lines;
+        }
+        let next = taken.case;
+        case = next;
+    }
+    Outcome::Refused(Refusal { number, line })
+}
