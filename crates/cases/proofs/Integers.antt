@@ -7,8 +7,8 @@ use native.Mathlib.Omega.{arith}
 use lib.Dec.{le→leb}
 use lib.IntN.{ℤ, pos, negsuc, negℤ, _+ℤ_, _-ℤ_, +ℤ-assoc, +ℤ-comm, negℤ-+ℤ}
 use lib.Signed.{_≤ℤ_, leZ-yes}
+use Rattle.measures.proofs.Tests.{le-or-lt}
 use Rattle.calendar.proofs.CountedMonths.{less, more}
-use Rattle.posts.proofs.ByRate.{le-or-lt}
 
 -- the same number taken from a larger one leaves no less
 pub less-mono : (a a' b : ℕ) → a ≤ a' → (pos a -ℤ pos b) ≤ℤ (pos a' -ℤ pos b)

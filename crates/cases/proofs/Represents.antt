@@ -229,17 +229,17 @@ pension-now c k h = rw (h .service, h .posts) (pension-with (k .years))
 
 -- the stage after a frame of each kind
 module _ (k : Frames) (e : beforePay k ≡ true) where
-  no-pay : given (k .finalPay) ≡ false
+  no-debits : any (k .debits) ≡ false
   unfolding beforePay
-  no-pay = not-any _ (and-left _ (not (any (k .factors))) (and-left _ (not (any (k .debits))) e))
+  no-debits = not-any _ (and-left _ (not (any (k .factors))) (and-left _ (not (given (k .finalPay))) e))
 
   no-factors : any (k .factors) ≡ false
   unfolding beforePay
-  no-factors = not-any _ (and-right (not (given (k .finalPay))) _ (and-left _ (not (any (k .debits))) e))
+  no-factors = not-any _ (and-right (not (any (k .debits))) _ (and-left _ (not (given (k .finalPay))) e))
 
-  no-debits : any (k .debits) ≡ false
+  no-pay : given (k .finalPay) ≡ false
   unfolding beforePay
-  no-debits = not-any _ (and-right (not (given (k .finalPay)) && not (any (k .factors))) _ e)
+  no-pay = not-any _ (and-right (not (any (k .debits)) && not (any (k .factors))) _ e)
 
 record YearFits (ys : List WorkedYear) (y : Year) : Type 0 where
   stands : yearStands y ≡ true

@@ -1,6 +1,6 @@
 -- The stage of a case, and the tests of order that it stands for.
 use Prim.Native.Nat.{ℕ}
-use mathlib.Core.Path.{_≡_, refl}
+use mathlib.Core.Path.{_≡_, refl, _∙_}
 use mathlib.Core.Bool.{Bool, true, false, _&&_, not, cond}
 use lib.Dec.{leb, eqb}
 use Rattle.measures.specs.Refusals.{within}
@@ -13,87 +13,41 @@ stage debits factors pay years = cond debits 5 (cond factors 4 (cond pay 3 (cond
 unfoldable pub stageOf : Frames → ℕ
 stageOf k = stage (any (k .debits)) (any (k .factors)) (given (k .finalPay)) (any (k .years))
 
+-- a test of the stage, from its five values
+module _ (t : ℕ → Bool) (u : Bool → Bool → Bool → Bool → Bool)
+    (five : (b c d : Bool) → t 5 ≡ u true b c d) (four : (c d : Bool) → t 4 ≡ u false true c d) (three : (d : Bool) → t 3 ≡ u false false true d)
+    (two : t 2 ≡ u false false false true) (one : t 1 ≡ u false false false false) where
+  by-values : (a b c d : Bool) → t (stage a b c d) ≡ u a b c d
+  by-values true b c d = five b c d
+  by-values false true c d = four c d
+  by-values false false true d = three d
+  by-values false false false true = two
+  by-values false false false false = one
+
+  by-stage : (k : Frames) → t (stageOf k) ≡ u (any (k .debits)) (any (k .factors)) (given (k .finalPay)) (any (k .years))
+  unfolding stageOf
+  by-stage k = by-values (any (k .debits)) (any (k .factors)) (given (k .finalPay)) (any (k .years))
+
 module _ (k : Frames) where
   pub stage-years : within 1 2 (stageOf k) ≡ beforePay k
-  unfolding stageOf beforePay
-  stage-years = by (any (k .debits)) (any (k .factors)) (given (k .finalPay)) (any (k .years))
-    where
-      by : (a b c d : Bool) → within 1 2 (stage a b c d) ≡ (not c && not b && not a)
-      by true true true d = refl
-      by true true false d = refl
-      by true false true d = refl
-      by true false false d = refl
-      by false true true d = refl
-      by false true false d = refl
-      by false false true d = refl
-      by false false false true = refl
-      by false false false false = refl
+  unfolding beforePay
+  stage-years = by-stage (within 1 2) (λ a b c d. not a && not b && not c) (λ b c d. refl) (λ c d. refl) (λ d. refl) refl refl k
 
   pub stage-posts : eqb (stageOf k) 2 ≡ (beforePay k && any (k .years))
-  unfolding stageOf beforePay
-  stage-posts = by (any (k .debits)) (any (k .factors)) (given (k .finalPay)) (any (k .years))
-    where
-      by : (a b c d : Bool) → eqb (stage a b c d) 2 ≡ (not c && not b && not a && d)
-      by true true true d = refl
-      by true true false d = refl
-      by true false true d = refl
-      by true false false d = refl
-      by false true true d = refl
-      by false true false d = refl
-      by false false true d = refl
-      by false false false true = refl
-      by false false false false = refl
+  unfolding beforePay
+  stage-posts = by-stage (λ s. eqb s 2) (λ a b c d. not a && not b && not c && d) (λ b c d. refl) (λ c d. refl) (λ d. refl) refl refl k
 
   pub stage-factors : within 1 4 (stageOf k) ≡ not (any (k .debits))
-  unfolding stageOf
-  stage-factors = by (any (k .debits)) (any (k .factors)) (given (k .finalPay)) (any (k .years))
-    where
-      by : (a b c d : Bool) → within 1 4 (stage a b c d) ≡ not a
-      by true b c d = refl
-      by false true c d = refl
-      by false false true d = refl
-      by false false false true = refl
-      by false false false false = refl
+  stage-factors = by-stage (within 1 4) (λ a b c d. not a) (λ b c d. refl) (λ c d. refl) (λ d. refl) refl refl k
 
   pub stage-begun : leb 1 (stageOf k) ≡ true
-  unfolding stageOf
-  stage-begun = by (any (k .debits)) (any (k .factors)) (given (k .finalPay)) (any (k .years))
-    where
-      by : (a b c d : Bool) → leb 1 (stage a b c d) ≡ true
-      by true b c d = refl
-      by false true c d = refl
-      by false false true d = refl
-      by false false false true = refl
-      by false false false false = refl
+  stage-begun = by-stage (leb 1) (λ a b c d. true) (λ b c d. refl) (λ c d. refl) (λ d. refl) refl refl k
 
   pub stage-some : eqb (stageOf k) 0 ≡ false
-  unfolding stageOf
-  stage-some = by (any (k .debits)) (any (k .factors)) (given (k .finalPay)) (any (k .years))
-    where
-      by : (a b c d : Bool) → eqb (stage a b c d) 0 ≡ false
-      by true b c d = refl
-      by false true c d = refl
-      by false false true d = refl
-      by false false false true = refl
-      by false false false false = refl
+  stage-some = by-stage (λ s. eqb s 0) (λ a b c d. false) (λ b c d. refl) (λ c d. refl) (λ d. refl) refl refl k
 
   pub stage-factor : any (k .debits) ≡ false → eqb (stageOf k) 4 ≡ any (k .factors)
-  unfolding stageOf
-  stage-factor e = rw e (by (any (k .factors)) (given (k .finalPay)) (any (k .years)))
-    where
-      by : (b c d : Bool) → eqb (stage false b c d) 4 ≡ b
-      by true c d = refl
-      by false true d = refl
-      by false false true = refl
-      by false false false = refl
+  stage-factor e = by-stage (λ s. eqb s 4) (λ a b c d. not a && b) (λ b c d. refl) (λ c d. refl) (λ d. refl) refl refl k ∙ rw e refl
 
   pub stage-debit : eqb (stageOf k) 5 ≡ any (k .debits)
-  unfolding stageOf
-  stage-debit = by (any (k .debits)) (any (k .factors)) (given (k .finalPay)) (any (k .years))
-    where
-      by : (a b c d : Bool) → eqb (stage a b c d) 5 ≡ a
-      by true b c d = refl
-      by false true c d = refl
-      by false false true d = refl
-      by false false false true = refl
-      by false false false false = refl
+  stage-debit = by-stage (λ s. eqb s 5) (λ a b c d. a) (λ b c d. refl) (λ c d. refl) (λ d. refl) refl refl k

@@ -58,9 +58,9 @@ lastOf (x ∷ y ∷ xs) = lastOf (y ∷ xs)
 
 -- ---- 4, kind out of order: "Order: one 01; any 02, each followed by its 03s; at most one 04, only with section 1; 05s; 06s."
 
--- no 04, 05 or 06 is kept yet
+-- no 06, 05 or 04 is kept yet
 unfoldable pub beforePay : Frames → Bool
-beforePay k = not (given (k .finalPay)) && not (any (k .factors)) && not (any (k .debits))
+beforePay k = not (any (k .debits)) && not (any (k .factors)) && not (given (k .finalPay))
 
 -- "section 1 (0 none, 1 the 1995)"
 unfoldable pub hasSection : Frames → Bool

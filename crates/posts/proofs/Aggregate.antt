@@ -6,12 +6,12 @@ use mathlib.Core.Logic.{⊎-elim}
 use Prim.Native.Nat.{ℕ, _+_, _*_, _-_, _≤_, _<_, min}
 use native.Mathlib.Nat.{mul-le-mul-right, mul-comm, zero-mul, le-refl, le-of-eq, mul-pos}
 use native.Mathlib.Omega.{arith}
+use Rattle.measures.proofs.Tests.{le-or-lt}
 use Rattle.measures.specs.Rounding.{rounded}
 use Rattle.measures.proofs.Rounding.{rounded-mono, rounded-add, rounded-scale, rounded-whole, rounded-zero, rounded-bound}
 use Rattle.posts.specs.declared.Post.{Post}
 use Rattle.posts.specs.Division.{Claim, Rated, numerator, denominator, Within, nothing, more, Allowed, division, paid}
 use Rattle.posts.specs.Posts.{h, p, contractedMinutes, weightedParts, claims, aggregate, aggregatePay, wholeTime, anyWholeTime, wholeTimeParts, parts, Rival, RivalIf}
-use Rattle.posts.proofs.ByRate.{le-or-lt}
 use Rattle.posts.proofs.Filling.{Filled, done, over, under, level, seen}
 use Rattle.posts.proofs.Optimum.{optimal-division, division-allowed, shares-within}
 
