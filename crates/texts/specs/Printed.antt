@@ -17,19 +17,16 @@ unfoldable pub digitsOf : ℕ → ℕ → List ℕ
 digitsOf zero number = []
 digitsOf (suc count) number = digitsOf count (number / 16) ++ characterOf (number % 16) ∷ []
 
--- two digits to a byte
+-- "two to a byte"
 abbrev pub bytesOfWidth : ℕ → ℕ → List ℕ
 bytesOfWidth width number = digitsOf (width + width) number
 
--- "80, then net 2015 pension, net 1995 pension, net lump sum, charge, 8 bytes each; or EE, refusal 1 byte, line 2 bytes"
+-- "80, then net 2015 pension, net 1995 pension, net lump sum, charge, 8 bytes each; or EE, refusal 1 byte, line 2 bytes", "ended by 0A"
 unfoldable pub printedOf : Outcome → List ℕ
 printedOf (Outcome.Worked a) =
-    bytesOfWidth 1 0x80
-    ++ (bytesOfWidth 8 (a .«net_2015» .0)
-    ++ (bytesOfWidth 8 (a .«net_1995» .0)
-    ++ (bytesOfWidth 8 (a .«net_lump_sum» .0)
-    ++ (bytesOfWidth 8 (a .charge .0) ++ (10 ∷ [])))))
-printedOf (Outcome.Refused r) = bytesOfWidth 1 0xEE ++ (bytesOfWidth 1 (r .number) ++ (bytesOfWidth 2 (r .line) ++ (10 ∷ [])))
+    bytesOfWidth 1 0x80 ++ bytesOfWidth 8 (a .«net_2015» .0) ++ bytesOfWidth 8 (a .«net_1995» .0)
+    ++ bytesOfWidth 8 (a .«net_lump_sum» .0) ++ bytesOfWidth 8 (a .charge .0) ++ 0x0A ∷ []
+printedOf (Outcome.Refused r) = bytesOfWidth 1 0xEE ++ bytesOfWidth 1 (r .number) ++ bytesOfWidth 2 (r .line) ++ 0x0A ∷ []
 
 -- the line that is printed: so many of the bytes, and each of them
 pub record Printed (o : Outcome) (p : PrintedLine) : Type 0 where

@@ -1,6 +1,8 @@
 // The reading of a text, and the printed line.
+mod printing;
 mod reading;
 
+pub use printing::printed;
 pub use reading::work_text;
 
 // A character of a line: a digit with its value, or another character.

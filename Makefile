@@ -1,0 +1,58 @@
+# Canyonsieve: the library, its header, the program, their tests.
+CFLAGS ?= -O2
+PREFIX ?= /usr/local
+DESTDIR ?=
+STRICT = -std=c99 -Wall -Wextra -Wpedantic -Werror
+LIBRARY = target/staticlib/libcanyonsieve.a
+HEADER = include/canyonsieve.h
+PROGRAM = target/bin/case_program
+STAGE = target/stage
+
+.PHONY: all library header program install test c-test examples payroll clean
+
+all: library header program
+
+# rt proves what changed and nothing else, so it decides what there is to do.
+library:
+	rt staticlib canyonsieve
+
+program:
+	rt check case_program
+
+# The header, read by a C and a C++ compiler.
+header:
+	$(CC) $(STRICT) -fsyntax-only -x c $(HEADER)
+	$(CXX) -Wall -Wextra -Wpedantic -Werror -fsyntax-only -x c++ $(HEADER)
+
+install: library program
+	install -d $(DESTDIR)$(PREFIX)/lib/pkgconfig $(DESTDIR)$(PREFIX)/include $(DESTDIR)$(PREFIX)/bin $(DESTDIR)$(PREFIX)/share/man/man1
+	install -m 644 $(LIBRARY) $(DESTDIR)$(PREFIX)/lib/libcanyonsieve.a
+	install -m 644 $(HEADER) $(DESTDIR)$(PREFIX)/include/canyonsieve.h
+	sed 's|@PREFIX@|$(PREFIX)|' canyonsieve.pc.in > $(DESTDIR)$(PREFIX)/lib/pkgconfig/canyonsieve.pc
+	install -m 755 $(PROGRAM) $(DESTDIR)$(PREFIX)/bin/canyonsieve-case
+	install -m 644 man/canyonsieve-case.1 $(DESTDIR)$(PREFIX)/share/man/man1/canyonsieve-case.1
+
+# The gate.
+test:
+	.ci/run
+
+# Calls the library from C.
+c-test: library header
+	mkdir -p target/c
+	$(CC) $(STRICT) $(CFLAGS) -Iinclude tests/c/calls.c $(LIBRARY) -o target/c/calls
+	target/c/calls
+
+# Every example text gives its line.
+examples: program
+	for text in examples/*.txt; do $(PROGRAM) < $$text | cmp - $${text%.txt}.line || exit 1; done
+
+# The payroll program from installed files alone.
+payroll:
+	$(MAKE) install DESTDIR= PREFIX=$(CURDIR)/$(STAGE)
+	mkdir -p target/c
+	$(CC) $(STRICT) $(CFLAGS) -I$(STAGE)/include examples/payroll.c -L$(STAGE)/lib -lcanyonsieve -o target/c/payroll
+	target/c/payroll | cmp - examples/payroll.out
+	$(STAGE)/bin/canyonsieve-case < examples/printed.txt | cmp - examples/printed.line
+
+clean:
+	rm -rf target

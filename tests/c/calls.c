@@ -1,0 +1,340 @@
+/* Calls each function of canyonsieve.h as payroll code does, and holds what it gives and every lent place to the
+ * figures of the paper. Prints how many checks there were; stops at the first that fails, with its line. */
+#include "canyonsieve.h"
+
+#include <inttypes.h>
+#include <stdio.h>
+#include <stdlib.h>
+#include <string.h>
+
+#define GUARD UINT64_C(0x5A5A5A5A5A5A5A5A)
+#define UNTOUCHED UINT64_C(0xA5A5A5A5A5A5A5A5)
+#define MOST_PLACES 18
+
+static unsigned checks;
+
+static void fail(int line, const char *what, uint64_t got, uint64_t expected)
+{
+    fprintf(stderr, "calls.c:%d: %s: got %" PRIu64 ", expected %" PRIu64 "\n", line, what, got, expected);
+    exit(1);
+}
+
+static void same(int line, const char *what, uint64_t got, uint64_t expected)
+{
+    checks++;
+    if (got != expected)
+        fail(line, what, got, expected);
+}
+
+static void figure(int line, struct canyonsieve_figure got, uint64_t refusal, uint64_t number)
+{
+    same(line, "refusal", got.refusal, refusal);
+    same(line, "number", got.number, number);
+}
+
+static void months(int line, struct canyonsieve_months got, uint64_t refusal, int64_t expected)
+{
+    same(line, "refusal", got.refusal, refusal);
+    same(line, "months", (uint64_t)got.months, (uint64_t)expected);
+}
+
+/* A post of the paper. */
+struct post {
+    unsigned h, w;
+    uint32_t p;
+};
+
+/* Writes posts as 8 bytes each, big-endian. */
+static void encode(const struct post *list, size_t count, uint8_t *bytes)
+{
+    for (size_t i = 0; i < count; i++) {
+        uint8_t *b = bytes + 8 * i;
+        b[0] = (uint8_t)(list[i].h >> 8);
+        b[1] = (uint8_t)list[i].h;
+        b[2] = (uint8_t)(list[i].w >> 8);
+        b[3] = (uint8_t)list[i].w;
+        b[4] = (uint8_t)(list[i].p >> 24);
+        b[5] = (uint8_t)(list[i].p >> 16);
+        b[6] = (uint8_t)(list[i].p >> 8);
+        b[7] = (uint8_t)list[i].p;
+    }
+}
+
+/* Calls posts on bytes with places between two guard words, and looks at every place, both guards and the bytes.
+ * expected has the parts of the first count places; the others stay. */
+static void posts_bytes(int line, const uint8_t *bytes, size_t length, size_t places, uint64_t refusal,
+                        uint64_t number, const uint64_t *expected, size_t count)
+{
+    uint64_t lent[MOST_PLACES + 2];
+    uint8_t before[8 * MOST_PLACES];
+
+    lent[0] = GUARD;
+    for (size_t i = 0; i < places; i++)
+        lent[i + 1] = UNTOUCHED;
+    lent[places + 1] = GUARD;
+    if (length != 0)
+        memcpy(before, bytes, length);
+    figure(line, canyonsieve_posts(bytes, length, lent + 1, places), refusal, number);
+    same(line, "word before the places", lent[0], GUARD);
+    for (size_t i = 0; i < places; i++)
+        same(line, "place", lent[i + 1], i < count ? expected[i] : UNTOUCHED);
+    same(line, "word after the places", lent[places + 1], GUARD);
+    same(line, "posts unchanged", length == 0 || memcmp(before, bytes, length) == 0, 1);
+}
+
+/* The same on posts of the paper. */
+static void posts(int line, const struct post *list, size_t count, size_t places, uint64_t refusal,
+                  uint64_t number, const uint64_t *expected)
+{
+    uint8_t bytes[8 * MOST_PLACES];
+
+    encode(list, count, bytes);
+    posts_bytes(line, bytes, 8 * count, places, refusal, number, expected, expected == NULL ? 0 : count);
+}
+
+#define COUNT(list) (sizeof(list) / sizeof((list)[0]))
+#define ACCEPTED(list, places, number, ...) \
+    posts(__LINE__, list, COUNT(list), places, 0, number, (const uint64_t[]){__VA_ARGS__})
+#define REFUSED(list, places, refusal) posts(__LINE__, list, COUNT(list), places, refusal, 0, NULL)
+
+static void posts_accepted(void)
+{
+    static const struct post two[] = {{1200, 2250, 1000000}, {1200, 2250, 1200000}};
+    static const struct post uneven[] = {{1500, 2250, 2600000}, {900, 2250, 1200000}};
+    static const struct post weeks[] = {{1200, 2250, 5300000}, {1140, 2400, 4750000}};
+    static const struct post equal[] = {{1200, 2250, 1000000}, {1200, 2250, 1000000}};
+    static const struct post whole[] = {{2250, 2250, 2000000}, {300, 2250, 900000}};
+    static const struct post past[] = {{1000, 1200, 900000}, {3000, 3000, 700000}};
+    static const struct post once[] = {{5, 6, 8}, {2, 3, 4}, {1, 2, 1}};
+    static const struct post one[] = {{600, 600, 5000}};
+
+    /* Starred figures. */
+    posts_bytes(__LINE__, NULL, 0, 0, 0, 0, NULL, 0);
+    ACCEPTED(two, 2, 2075000, 2520000, 2880000);
+    ACCEPTED(uneven, 2, 3600000, 3600000, 1800000);
+    ACCEPTED(weeks, 2, 9979487, 2808000, 2628000);
+    ACCEPTED(equal, 2, 1875000, 2880000, 2520000);
+    ACCEPTED(whole, 2, 2000000, 5737500, 0);
+
+    ACCEPTED(past, 2, 700000, 0, 12000000);
+    ACCEPTED(once, 3, 8, 22, 16, 0);
+    ACCEPTED(one, 1, 5000, 360000);
+    ACCEPTED(one, 4, 5000, 360000);
+    ACCEPTED(equal, 5, 1875000, 2880000, 2520000);
+    posts_bytes(__LINE__, NULL, 0, 3, 0, 0, NULL, 0);
+}
+
+static void posts_refused(void)
+{
+    static const struct post above[] = {{601, 600, 5000}};
+    static const struct post none[] = {{0, 600, 5000}};
+    static const struct post week[] = {{600, 10081, 5000}};
+    static const struct post pay[] = {{600, 2250, 1000000001}};
+    static const struct post whole[] = {{600, 600, 5000}, {700, 700, 9000}};
+    static const struct post eighth[] = {{600, 600, 5000}, {700, 700, 9000}, {0, 1, 1}};
+    static const struct post seventh[] = {{0, 1, 1}, {600, 600, 5000}, {700, 700, 9000}};
+    static const struct post late[] = {{600, 2250, 5000}, {601, 600, 5000}};
+    static const uint8_t zeros[8 * MOST_PLACES];
+
+    REFUSED(above, 1, CANYONSIEVE_POST);
+    REFUSED(none, 1, CANYONSIEVE_POST);
+    REFUSED(week, 1, CANYONSIEVE_POST);
+    REFUSED(pay, 1, CANYONSIEVE_POST);
+    REFUSED(whole, 2, CANYONSIEVE_SECOND_WHOLE_TIME);
+    REFUSED(eighth, 3, CANYONSIEVE_SECOND_WHOLE_TIME);
+    REFUSED(seventh, 3, CANYONSIEVE_POST);
+    REFUSED(late, 2, CANYONSIEVE_POST);
+    REFUSED(whole, 1, CANYONSIEVE_PLACES);
+    posts_bytes(__LINE__, zeros, 7, 1, CANYONSIEVE_POSTS_LENGTH, 0, NULL, 0);
+    posts_bytes(__LINE__, zeros, 137, 17, CANYONSIEVE_POSTS_LENGTH, 0, NULL, 0);
+    posts_bytes(__LINE__, zeros, 136, 17, CANYONSIEVE_POST_COUNT, 0, NULL, 0);
+    posts_bytes(__LINE__, zeros, 136, 0, CANYONSIEVE_POST_COUNT, 0, NULL, 0);
+    posts_bytes(__LINE__, zeros, 128, 15, CANYONSIEVE_PLACES, 0, NULL, 0);
+    posts_bytes(__LINE__, zeros, 128, 16, CANYONSIEVE_POST, 0, NULL, 0);
+    figure(__LINE__, canyonsieve_posts(zeros, 8, NULL, 0), CANYONSIEVE_PLACES, 0);
+    figure(__LINE__, canyonsieve_posts(zeros, 1, NULL, 0), CANYONSIEVE_POSTS_LENGTH, 0);
+    figure(__LINE__, canyonsieve_posts(NULL, 0, NULL, 0), CANYONSIEVE_ACCEPTED, 0);
+}
+
+static void sixteen_posts(void)
+{
+    struct post list[17];
+    uint64_t expected[16] = {5760000, 5760000, 5760000, 4320000};
+
+    for (size_t i = 0; i < COUNT(list); i++)
+        list[i] = (struct post){600, 2250, 1000000};
+    posts(__LINE__, list, 16, 16, 0, 3750000, expected);
+    posts(__LINE__, list, 16, 18, 0, 3750000, expected);
+    posts(__LINE__, list, 17, 18, CANYONSIEVE_POST_COUNT, 0, NULL);
+}
+
+/* Every number of a charge one after the other, replaced in numbers that stand. */
+static void charge_with(int line, unsigned at, uint64_t n, uint64_t refusal, uint64_t number)
+{
+    uint64_t c[10] = {3000000, 3100000, 3200000, 4000000, 65, 65, 65, 7, 7300, 2020};
+
+    c[at] = n;
+    figure(line, canyonsieve_charge(c[0], c[1], c[2], c[3], c[4], c[5], c[6], c[7], c[8], c[9]), refusal, number);
+}
+
+static void charges(void)
+{
+    static const uint64_t most[10] = {1000000000, 1000000000, 1000000000, 1000000000, 1000,
+                                      1000,       1000,       7,          16425,      10000};
+
+    /* The starred figure. */
+    charge_with(__LINE__, 0, 3000000, 0, 3433600);
+    figure(__LINE__, canyonsieve_charge(2000000, 2800000, 3000000, 3200000, 65, 65, 65, 7, 11680, 2020), 0, 7276448);
+    figure(__LINE__, canyonsieve_charge(0, 0, 0, 1000000000, 0, 0, 0, 7, 16425, 10000), 0, UINT64_C(57937500000));
+    figure(__LINE__, canyonsieve_charge(200000, 280000, 320000, 300000, 65, 40, 25, 2, 11680, 2020), 0, 267264);
+    figure(__LINE__, canyonsieve_charge(200000, 320000, 280000, 300000, 65, 40, 25, 1, 11680, 2020), 0, 992960);
+    figure(__LINE__, canyonsieve_charge(500, 100002, 0, 0, 1, 0, 0, 1, 14600, 50), 0, 174129);
+
+    for (unsigned i = 0; i < 10; i++) {
+        charge_with(__LINE__, i, most[i] + 1, CANYONSIEVE_FINAL_PAY, 0);
+        charge_with(__LINE__, i, UINT64_MAX, CANYONSIEVE_FINAL_PAY, 0);
+        /* Numbers that would stand if they were cut to 8, 16 or 32 bits. */
+        charge_with(__LINE__, i, (UINT64_C(1) << 40) + 1, CANYONSIEVE_FINAL_PAY, 0);
+        charge_with(__LINE__, i, (UINT64_C(1) << 32) + 1, CANYONSIEVE_FINAL_PAY, 0);
+    }
+    charge_with(__LINE__, 7, UINT64_C(1) << 40, CANYONSIEVE_FINAL_PAY, 0);
+    charge_with(__LINE__, 7, 256 + 7, CANYONSIEVE_FINAL_PAY, 0);
+    charge_with(__LINE__, 8, 65536 + 7300, CANYONSIEVE_FINAL_PAY, 0);
+    charge_with(__LINE__, 9, 65536 + 2020, CANYONSIEVE_FINAL_PAY, 0);
+    charge_with(__LINE__, 9, 0, CANYONSIEVE_FINAL_PAY, 0);
+}
+
+static void dates(void)
+{
+    /* Starred figures. */
+    months(__LINE__, canyonsieve_months_early(1970, 4, 1, 2025, 11, 1, 60), 0, 53);
+    months(__LINE__, canyonsieve_months_early(1967, 11, 1, 2030, 10, 17, 67), 0, 49);
+    months(__LINE__, canyonsieve_months_early(1967, 11, 1, 2034, 11, 1, 67), 0, 0);
+    months(__LINE__, canyonsieve_months_early(1967, 11, 1, 2034, 12, 1, 67), 0, -1);
+
+    months(__LINE__, canyonsieve_months_early(1960, 5, 15, 1960, 5, 15, 75), 0, 900);
+    months(__LINE__, canyonsieve_months_early(1900, 1, 1, 2100, 12, 31, 55), 0, -1751);
+    months(__LINE__, canyonsieve_months_early(2000, 2, 29, 2060, 2, 28, 60), 0, 1);
+
+    months(__LINE__, canyonsieve_months_early(1960, 5, 15, 1960, 5, 14, 60), CANYONSIEVE_DATES, 0);
+    months(__LINE__, canyonsieve_months_early(1899, 12, 31, 1960, 1, 1, 60), CANYONSIEVE_DATES, 0);
+    months(__LINE__, canyonsieve_months_early(1900, 1, 1, 2101, 1, 1, 60), CANYONSIEVE_DATES, 0);
+    months(__LINE__, canyonsieve_months_early(1900, 2, 29, 1960, 1, 1, 60), CANYONSIEVE_DATES, 0);
+    months(__LINE__, canyonsieve_months_early(1900, 1, 1, 2100, 2, 29, 60), CANYONSIEVE_DATES, 0);
+    months(__LINE__, canyonsieve_months_early(1960, 0, 1, 2020, 1, 1, 60), CANYONSIEVE_DATES, 0);
+    months(__LINE__, canyonsieve_months_early(1960, 1, 1, 2020, 13, 1, 60), CANYONSIEVE_DATES, 0);
+    months(__LINE__, canyonsieve_months_early(1960, 1, 0, 2020, 1, 1, 60), CANYONSIEVE_DATES, 0);
+    months(__LINE__, canyonsieve_months_early(1960, 1, 1, 2020, 4, 31, 60), CANYONSIEVE_DATES, 0);
+    months(__LINE__, canyonsieve_months_early(1960, 1, 1, 2020, 1, 1, 54), CANYONSIEVE_DATES, 0);
+    months(__LINE__, canyonsieve_months_early(1960, 1, 1, 2020, 1, 1, 76), CANYONSIEVE_DATES, 0);
+    /* Numbers that would stand if they were cut to 8, 16 or 32 bits. */
+    months(__LINE__, canyonsieve_months_early(65536 + 1960, 1, 1, 65536 + 2020, 1, 1, 60), CANYONSIEVE_DATES, 0);
+    months(__LINE__, canyonsieve_months_early(1960, 256 + 1, 1, 2020, 1, 1, 60), CANYONSIEVE_DATES, 0);
+    months(__LINE__, canyonsieve_months_early(1960, 1, 256 + 1, 2020, 1, 1, 60), CANYONSIEVE_DATES, 0);
+    months(__LINE__, canyonsieve_months_early(1960, 1, 1, 2020, 1, 1, (UINT64_C(1) << 32) + 60), CANYONSIEVE_DATES, 0);
+    months(__LINE__, canyonsieve_months_early(1960, 1, 1, UINT64_MAX, 1, 1, 60), CANYONSIEVE_DATES, 0);
+}
+
+static void abatements(void)
+{
+    static const uint64_t most = UINT64_C(1000000000000);
+
+    /* Starred figures. */
+    figure(__LINE__, canyonsieve_abatement(1000000, 600000, 2000000, 1800000), 0, 200000);
+    figure(__LINE__, canyonsieve_abatement(1000000, 600000, 2000000, 3000000), 0, 400000);
+    figure(__LINE__, canyonsieve_abatement(1000000, 600000, 2000000, 1600000), 0, 0);
+
+    figure(__LINE__, canyonsieve_abatement(1000000, 1000000, 2000000, 3000000), 0, 0);
+    figure(__LINE__, canyonsieve_abatement(most, 0, 0, most), 0, most);
+    figure(__LINE__, canyonsieve_abatement(most, most, most, most), 0, 0);
+    figure(__LINE__, canyonsieve_abatement(most + 1, 0, 0, 0), CANYONSIEVE_AMOUNT, 0);
+    figure(__LINE__, canyonsieve_abatement(most, most + 1, 0, 0), CANYONSIEVE_AMOUNT, 0);
+    figure(__LINE__, canyonsieve_abatement(1000000, 600000, most + 1, 0), CANYONSIEVE_AMOUNT, 0);
+    figure(__LINE__, canyonsieve_abatement(1000000, 600000, 0, most + 1), CANYONSIEVE_AMOUNT, 0);
+    figure(__LINE__, canyonsieve_abatement(1000000, 600000, 2000000, UINT64_MAX), CANYONSIEVE_AMOUNT, 0);
+    figure(__LINE__, canyonsieve_abatement(1000000, 1000001, 2000000, most + 1), CANYONSIEVE_AMOUNT, 0);
+    figure(__LINE__, canyonsieve_abatement(1000000, 1000001, 2000000, 1800000), CANYONSIEVE_EARNED, 0);
+}
+
+static void outcome(int line, const char *text, size_t length, const uint64_t expected[6])
+{
+    struct canyonsieve_outcome got = canyonsieve_case((const uint8_t *)text, length);
+    same(line, "refusal", got.refusal, expected[0]);
+    same(line, "line", got.line, expected[1]);
+    same(line, "net 2015", got.net_2015, expected[2]);
+    same(line, "net 1995", got.net_1995, expected[3]);
+    same(line, "net lump sum", got.net_lump_sum, expected[4]);
+    same(line, "charge", got.charge, expected[5]);
+}
+
+static void worked(int line, const char *text, uint64_t net_2015, uint64_t net_1995, uint64_t net_lump_sum, uint64_t charge)
+{
+    const uint64_t expected[6] = {0, 0, net_2015, net_1995, net_lump_sum, charge};
+    outcome(line, text, strlen(text), expected);
+}
+
+static void refused(int line, const char *text, uint64_t refusal, uint64_t at)
+{
+    const uint64_t expected[6] = {refusal, at, 0, 0, 0, 0};
+    outcome(line, text, strlen(text), expected);
+}
+
+#define MEMBER "0107B2040107F504010043\n"
+#define YEAR "0207DF0000\n"
+#define POSTS "0305DC08CA0027AC40\n03038408CA00124F80\n"
+
+static void cases(void)
+{
+    static const uint64_t no_record[6] = {CANYONSIEVE_ORDER, 0, 0, 0, 0, 0};
+    static const uint64_t too_long[6] = {CANYONSIEVE_TEXT_LENGTH, 0, 0, 0, 0, 0};
+    static char text[32769];
+
+    worked(__LINE__, MEMBER YEAR POSTS, 66667, 0, 0, 0);
+    worked(__LINE__, MEMBER, 0, 0, 0, 0);
+    /* A member with a section: the final pay and the charge of the starred figure. */
+    worked(__LINE__, "0107B2040107F504010143\n" YEAR POSTS "04002DC6C0002F4D600030D400003D09000041004100410" "71C8407E4\n", 66667, 1000000,
+           3000000, 3433600);
+
+    outcome(__LINE__, NULL, 0, no_record);
+    refused(__LINE__, "\n", CANYONSIEVE_LINE, 1);
+    refused(__LINE__, MEMBER YEAR "0305DC08CA0027AC4g\n", CANYONSIEVE_LINE, 3);
+    refused(__LINE__, MEMBER "0207df0000\n", CANYONSIEVE_LINE, 2);
+    refused(__LINE__, MEMBER "0207DF0000", CANYONSIEVE_LINE, 2);
+    refused(__LINE__, MEMBER "07\n", CANYONSIEVE_FRAME, 2);
+    refused(__LINE__, YEAR, CANYONSIEVE_ORDER, 1);
+    refused(__LINE__, MEMBER MEMBER, CANYONSIEVE_ORDER, 2);
+    refused(__LINE__, "0107B2041F07F504010043\n", CANYONSIEVE_DATES, 1);
+    refused(__LINE__, MEMBER "0207DE0000\n", CANYONSIEVE_YEAR, 2);
+    refused(__LINE__, MEMBER YEAR "0308CB08CA0027AC40\n", CANYONSIEVE_POST, 3);
+    refused(__LINE__, "0107B2040107F504010143\n", CANYONSIEVE_NO_FINAL_PAY, 0);
+    refused(__LINE__, "0107B2040107F503010043\n", CANYONSIEVE_NO_FACTOR, 0);
+    refused(__LINE__, MEMBER YEAR POSTS "06000001046C0064\n", CANYONSIEVE_DEBIT_ABOVE, 0);
+    worked(__LINE__, MEMBER YEAR POSTS "06000001046B0064\n", 0, 0, 0, 0);
+
+    memset(text, '0', sizeof text);
+    outcome(__LINE__, text, 32769, too_long);
+    text[32767] = '\n';
+    {
+        const uint64_t long_line[6] = {CANYONSIEVE_LINE, 1, 0, 0, 0, 0};
+        outcome(__LINE__, text, 32768, long_line);
+    }
+    text[32766] = '\n';
+    text[32767] = '0';
+    {
+        const uint64_t long_frame[6] = {CANYONSIEVE_FRAME, 1, 0, 0, 0, 0};
+        outcome(__LINE__, text, 32768, long_frame);
+    }
+}
+
+int main(void)
+{
+    posts_accepted();
+    posts_refused();
+    sixteen_posts();
+    charges();
+    dates();
+    abatements();
+    cases();
+    printf("%u checks passed\n", checks);
+    return 0;
+}
