@@ -7,8 +7,10 @@ LIBRARY = target/staticlib/libcanyonsieve.a
 HEADER = include/canyonsieve.h
 PROGRAM = target/bin/case_program
 STAGE = target/stage
+CARGO = CARGO_TARGET_DIR=$(CURDIR)/target/second CANYONSIEVE_LIB_DIR=$(CURDIR)/target/staticlib cargo
+SECOND = --release --offline --locked --manifest-path tests/second/Cargo.toml
 
-.PHONY: all library header program install test c-test examples payroll clean
+.PHONY: all library header program install test c-test examples payroll second clean
 
 all: library header program
 
@@ -53,6 +55,12 @@ payroll:
 	$(CC) $(STRICT) $(CFLAGS) -I$(STAGE)/include examples/payroll.c -L$(STAGE)/lib -lcanyonsieve -o target/c/payroll
 	target/c/payroll | cmp - examples/payroll.out
 	$(STAGE)/bin/canyonsieve-case < examples/printed.txt | cmp - examples/printed.line
+
+# The second program: its own figures, then held against the library, then rivals against the library's amounts.
+second: library
+	$(CARGO) test $(SECOND)
+	$(CARGO) run $(SECOND) --features case --bin compare
+	$(CARGO) run $(SECOND) --features case --bin rivals
 
 clean:
 	rm -rf target

@@ -1,3 +1,4 @@
 pub mod Worked
 pub mod InLines
 pub mod Writing
+pub mod Example

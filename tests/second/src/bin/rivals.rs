@@ -1,0 +1,254 @@
+//! Tries rival workings: none may have a larger net pension sum or a larger net lump sum than the
+//! amounts that the case gives. Small cases are held against every rival there is, large ones
+//! against random and greedy rivals. With the feature `case` the amounts are the engine's.
+
+use second::benefits::after_year;
+use second::cases::{Case, Year};
+use second::posts::{aggregate_of, filled, minutes_together, parts_of, parts_together, Post};
+use second::random::Random;
+use second::samples::accepted;
+use second::samples::writing::case_text;
+use second::Outcome;
+use std::collections::BTreeSet;
+use std::process::exit;
+
+const SEED: u64 = 0x0061_7661_6C73_0003;
+const SMALL_CASES: u64 = 4_000;
+const LARGE_CASES: u64 = 10_000;
+const RIVALS_OF_A_LARGE_CASE: u64 = 60;
+
+/// The amounts of a text.
+fn given_amounts(text: &[u8]) -> Outcome {
+    #[cfg(feature = "case")]
+    return second::engine::case(text);
+    #[cfg(not(feature = "case"))]
+    return second::case(text);
+}
+
+/// The two amounts a rival is judged by; a net below zero stays so.
+#[derive(Clone, Copy, Debug, PartialEq, Eq)]
+struct Nets {
+    pensions: i128,
+    lump_sum: i128,
+}
+
+/// The nets of a 2015 pension before reduction and of the final pay of a year.
+fn nets(case: &Case, pension_2015: u64, final_year: usize) -> Nets {
+    let had = case
+        .benefits(pension_2015, final_year)
+        .expect("a case with its factors");
+    let debits = case.benefit_debits();
+    let less = |amount: u64, debit: u64| i128::from(amount) - i128::from(debit);
+    Nets {
+        pensions: less(had.pension_2015, debits.pension_2015)
+            + less(had.pension_1995, debits.pension_1995),
+        lump_sum: less(had.lump_sum, debits.lump_sum),
+    }
+}
+
+fn given_nets(given: &Outcome) -> Nets {
+    Nets {
+        pensions: i128::from(given.net_2015) + i128::from(given.net_1995),
+        lump_sum: i128::from(given.net_lump_sum),
+    }
+}
+
+/// The years that a rival may pick for final pay; one stands for none without a section.
+fn final_years(case: &Case) -> std::ops::RangeInclusive<usize> {
+    if case.final_pay.is_some() {
+        1..=3
+    } else {
+        1..=1
+    }
+}
+
+fn fail(text: &[u8], given: Nets, rival: Nets) -> ! {
+    println!("A RIVAL IS BETTER, or none is as good");
+    println!("{}", String::from_utf8_lossy(text));
+    println!("given: {given:?}");
+    println!("rival: {rival:?}");
+    exit(1);
+}
+
+/// Every division of the parts of a year: their number and the aggregates that they give.
+struct Divisions {
+    count: u128,
+    aggregates: BTreeSet<u64>,
+}
+
+impl Divisions {
+    fn of(year: &Year) -> Divisions {
+        let mut divisions = Divisions {
+            count: 0,
+            aggregates: BTreeSet::new(),
+        };
+        let mut parts = vec![0; year.posts.len()];
+        if year.posts.iter().any(Post::is_whole_time) {
+            divisions.add(&year.posts, &parts_of(&year.posts));
+        } else {
+            let left = parts_together(&year.posts);
+            divisions.add_all(&year.posts, &mut parts, 0, left);
+        }
+        divisions
+    }
+
+    fn add(&mut self, posts: &[Post], parts: &[u64]) {
+        self.count += 1;
+        self.aggregates.insert(aggregate_of(posts, parts));
+    }
+
+    /// Adds every division that has the parts so far before the place.
+    fn add_all(&mut self, posts: &[Post], parts: &mut [u64], place: usize, left: u64) {
+        if place == posts.len() {
+            self.add(posts, parts);
+            return;
+        }
+        let most = left.min(posts[place].contracted * minutes_together(posts));
+        for share in 0..=most {
+            parts[place] = share;
+            self.add_all(posts, parts, place + 1, left - share);
+        }
+    }
+}
+
+/// Holds a small case against every rival and gives their number. The pension after a year depends
+/// on the picks before it only through the pension before it, so sets of pensions are enough.
+fn try_every_rival(case: &Case) -> u128 {
+    let text = case_text(case);
+    let given = given_nets(&given_amounts(&text));
+    let mut count = 1;
+    let mut pensions = BTreeSet::from([0]);
+    for year in &case.years {
+        let divisions = Divisions::of(year);
+        count *= divisions.count;
+        pensions = pensions
+            .iter()
+            .flat_map(|&pension| {
+                let after =
+                    move |&aggregate: &u64| after_year(pension, year.revaluation, aggregate);
+                divisions.aggregates.iter().map(after)
+            })
+            .collect();
+    }
+    let (mut best_pensions, mut best_lump_sum) = (i128::MIN, i128::MIN);
+    for final_year in final_years(case) {
+        for &pension in &pensions {
+            let rival = nets(case, pension, final_year);
+            if rival.pensions > given.pensions || rival.lump_sum > given.lump_sum {
+                fail(&text, given, rival);
+            }
+            best_pensions = best_pensions.max(rival.pensions);
+            best_lump_sum = best_lump_sum.max(rival.lump_sum);
+        }
+    }
+    // The case's own working is one of the rivals.
+    let best = Nets {
+        pensions: best_pensions,
+        lump_sum: best_lump_sum,
+    };
+    if best != given {
+        fail(&text, given, best);
+    }
+    count * final_years(case).count() as u128
+}
+
+/// The places of posts in one of several orders.
+fn some_order(random: &mut Random, posts: &[Post]) -> Vec<usize> {
+    let mut order: Vec<usize> = (0..posts.len()).collect();
+    match random.below(4) {
+        0 => random.shuffle(&mut order),
+        1 => order.sort_by_key(|&place| std::cmp::Reverse(posts[place].pay)),
+        2 => order.sort_by_key(|&place| posts[place].contracted),
+        _ => order.sort_by_key(|&place| posts[place].pay * 1_000 / posts[place].contracted),
+    }
+    order
+}
+
+/// Any shares for the posts in any order, each within what is left.
+fn random_parts(random: &mut Random, posts: &[Post]) -> Vec<u64> {
+    let minutes = minutes_together(posts);
+    let mut left = parts_together(posts);
+    let mut parts = vec![0; posts.len()];
+    for place in some_order(random, posts) {
+        let most = left.min(posts[place].contracted * minutes);
+        parts[place] = random.near_ends(0, most);
+        left -= parts[place];
+    }
+    parts
+}
+
+/// The parts of the posts step with some moved from one post to another.
+fn moved_parts(random: &mut Random, posts: &[Post]) -> Vec<u64> {
+    let mut parts = parts_of(posts);
+    let (from, to) = (random.place(posts.len()), random.place(posts.len()));
+    let room = posts[to].contracted * minutes_together(posts) - parts[to];
+    let most = room.min(parts[from]);
+    if from != to && most > 0 {
+        let moved = random.near_ends(1, most);
+        parts[from] -= moved;
+        parts[to] += moved;
+    }
+    parts
+}
+
+/// A rival's parts of a year.
+fn rival_parts(random: &mut Random, posts: &[Post]) -> Vec<u64> {
+    if posts.is_empty() || posts.iter().any(Post::is_whole_time) {
+        return parts_of(posts);
+    }
+    let parts = match random.below(4) {
+        0 => random_parts(random, posts),
+        1 => {
+            let order = some_order(random, posts);
+            filled(posts, &order)
+        }
+        2 => moved_parts(random, posts),
+        _ => parts_of(posts),
+    };
+    let minutes = minutes_together(posts);
+    let within = |(share, post): (&u64, &Post)| *share <= post.contracted * minutes;
+    assert!(parts.iter().zip(posts).all(within));
+    assert!(parts.iter().sum::<u64>() <= parts_together(posts));
+    parts
+}
+
+/// Holds a case against some rivals; gives how many of them were as good in both amounts.
+fn try_some_rivals(random: &mut Random, case: &Case) -> u64 {
+    let text = case_text(case);
+    let given = given_nets(&given_amounts(&text));
+    let mut as_good = 0;
+    for _ in 0..RIVALS_OF_A_LARGE_CASE {
+        let aggregates: Vec<u64> = case
+            .years
+            .iter()
+            .map(|year| aggregate_of(&year.posts, &rival_parts(random, &year.posts)))
+            .collect();
+        let final_year = random.between(1, *final_years(case).end() as u64) as usize;
+        let rival = nets(case, case.pension_2015(&aggregates), final_year);
+        if rival.pensions > given.pensions || rival.lump_sum > given.lump_sum {
+            fail(&text, given, rival);
+        }
+        as_good += u64::from(rival == given);
+    }
+    as_good
+}
+
+fn main() {
+    let mut random = Random::new(SEED);
+    let mut every = 0;
+    let mut with_section = 0;
+    for _ in 0..SMALL_CASES {
+        let case = accepted::small_case(&mut random);
+        every += try_every_rival(&case);
+        with_section += u64::from(case.final_pay.is_some());
+    }
+    println!("{SMALL_CASES} small cases ({with_section} with a section), all of {every} rivals");
+    let mut as_good = 0;
+    for _ in 0..LARGE_CASES {
+        let case = accepted::case(&mut random);
+        as_good += try_some_rivals(&mut random, &case);
+    }
+    let some = LARGE_CASES * RIVALS_OF_A_LARGE_CASE;
+    println!("{LARGE_CASES} large cases, {some} rivals, {as_good} of them as good");
+    println!("no rival is better");
+}

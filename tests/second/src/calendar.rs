@@ -1,0 +1,134 @@
+//! Dates by counted days, and months early.
+
+use crate::unless;
+
+/// The pension age of the 1995 Section.
+pub const SECTION_PENSION_AGE: u64 = 60;
+
+/// A date as given; it need not be one of the calendar.
+#[derive(Clone, Copy, Debug, PartialEq, Eq)]
+pub struct Date {
+    pub year: u64,
+    pub month: u64,
+    pub day: u64,
+}
+
+/// The days from 1 March of the year 0 to the first of a month. Years are begun in March here, so
+/// that a leap day is the last day of its year and the months have one repeating pattern.
+fn days_to_first(year: u64, month: u64) -> u64 {
+    let (years, months) = if month >= 3 {
+        (year, month - 3)
+    } else {
+        (year - 1, month + 9)
+    };
+    365 * years + years / 4 - years / 100 + years / 400 + (153 * months + 2) / 5
+}
+
+/// The days from the first of a month to the first of the next.
+pub fn month_length(year: u64, month: u64) -> u64 {
+    let (next_year, next_month) = if month == 12 {
+        (year + 1, 1)
+    } else {
+        (year, month + 1)
+    };
+    days_to_first(next_year, next_month) - days_to_first(year, month)
+}
+
+impl Date {
+    /// Whether the date is one of the calendar, from 1900 to 2100.
+    pub fn exists(self) -> bool {
+        (1900..=2100).contains(&self.year)
+            && (1..=12).contains(&self.month)
+            && (1..=month_length(self.year, self.month)).contains(&self.day)
+    }
+
+    /// The days from 1 March of the year 0.
+    fn day_count(self) -> u64 {
+        days_to_first(self.year, self.month) + self.day - 1
+    }
+}
+
+/// Refusal 5 of two dates and a pension age.
+pub fn try_dates(birth: Date, retirement: Date, pension_age: u64) -> Result<(), u64> {
+    unless(birth.exists() && retirement.exists(), 5)?;
+    unless(birth.day_count() <= retirement.day_count(), 5)?;
+    unless((55..=75).contains(&pension_age), 5)
+}
+
+/// Whether `months` months after the birth are over at retirement. A day number that the month
+/// reached does not have is still compared as a number.
+fn completed(birth: Date, retirement: Date, months: u64) -> bool {
+    let reached = birth.month - 1 + months;
+    let year = birth.year + reached / 12;
+    let month = reached % 12 + 1;
+    (year, month, birth.day) <= (retirement.year, retirement.month, retirement.day)
+}
+
+/// The completed months between two dates of the calendar, counted by years, then one by one.
+fn age_in_months(birth: Date, retirement: Date) -> i64 {
+    let mut months = 0;
+    while completed(birth, retirement, months + 12) {
+        months += 12;
+    }
+    while completed(birth, retirement, months + 1) {
+        months += 1;
+    }
+    months as i64
+}
+
+/// The months from retirement to the pension age; below nought if it is past.
+pub fn months_before(birth: Date, retirement: Date, pension_age: u64) -> i64 {
+    12 * pension_age as i64 - age_in_months(birth, retirement)
+}
+
+/// The dates call: refusal and months early.
+pub fn months_early(
+    birth_year: u64,
+    birth_month: u64,
+    birth_day: u64,
+    retirement_year: u64,
+    retirement_month: u64,
+    retirement_day: u64,
+    pension_age: u64,
+) -> (u64, i64) {
+    let birth = Date {
+        year: birth_year,
+        month: birth_month,
+        day: birth_day,
+    };
+    let retirement = Date {
+        year: retirement_year,
+        month: retirement_month,
+        day: retirement_day,
+    };
+    match try_dates(birth, retirement, pension_age) {
+        Ok(()) => (0, months_before(birth, retirement, pension_age)),
+        Err(refusal) => (refusal, 0),
+    }
+}
+
+#[cfg(test)]
+mod tests {
+    use super::*;
+
+    #[test]
+    fn months_have_their_lengths() {
+        for year in 1900..=2100 {
+            let leap = year % 4 == 0 && year != 1900 && year != 2100;
+            let february = if leap { 29 } else { 28 };
+            let lengths = [31, february, 31, 30, 31, 30, 31, 31, 30, 31, 30, 31];
+            for (month, length) in (1..).zip(lengths) {
+                assert_eq!(month_length(year, month), length);
+            }
+        }
+    }
+
+    #[test]
+    fn months_are_counted_by_day_numbers() {
+        assert_eq!(months_early(1960, 1, 31, 1960, 2, 29, 55), (0, 660));
+        assert_eq!(months_early(1960, 1, 31, 1960, 3, 30, 55), (0, 659));
+        assert_eq!(months_early(1960, 1, 31, 1960, 3, 31, 55), (0, 658));
+        assert_eq!(months_early(1960, 5, 5, 1960, 5, 5, 75), (0, 900));
+        assert_eq!(months_early(1900, 1, 1, 2100, 12, 31, 55), (0, -1751));
+    }
+}

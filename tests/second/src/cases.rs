@@ -1,0 +1,269 @@
+//! A case: the frames kept, their order and fields, and its closing.
+
+use crate::benefits::{after_year, pension_debit, reduced, FinalPay};
+use crate::calendar::{months_before, try_dates, SECTION_PENSION_AGE};
+use crate::frames::{frame, line_bytes, lines, Debit, Factor, Frame, Member, LARGEST_TEXT};
+use crate::posts::{aggregate, try_post, Post};
+use crate::{unless, LARGEST_PAY};
+
+/// The most years of a case.
+pub const MOST_YEARS: usize = 50;
+
+/// An April year with its revaluation and its posts.
+#[derive(Clone, Debug, PartialEq, Eq)]
+pub struct Year {
+    pub april: u64,
+    pub revaluation: u64,
+    pub posts: Vec<Post>,
+}
+
+/// The frames kept so far.
+#[derive(Clone, Debug, Default, PartialEq, Eq)]
+pub struct Case {
+    pub member: Option<Member>,
+    pub years: Vec<Year>,
+    pub final_pay: Option<FinalPay>,
+    pub factors: Vec<Factor>,
+    pub debits: Vec<Debit>,
+}
+
+/// Pensions and lump sum, in pence.
+#[derive(Clone, Copy, Debug, Default, PartialEq, Eq)]
+pub struct Benefits {
+    pub pension_2015: u64,
+    pub pension_1995: u64,
+    pub lump_sum: u64,
+}
+
+/// What a text gives.
+#[derive(Clone, Copy, Debug, Default, PartialEq, Eq)]
+pub struct Outcome {
+    pub refusal: u64,
+    pub line: u64,
+    pub net_2015: u64,
+    pub net_1995: u64,
+    pub net_lump_sum: u64,
+    pub charge: u64,
+}
+
+impl Case {
+    fn has_section(&self) -> bool {
+        self.member.map_or(false, |member| member.section == 1)
+    }
+
+    /// Refusal 4: whether the frame may come now.
+    fn try_order(&self, frame: &Frame) -> Result<(), u64> {
+        let before_final_pay =
+            self.final_pay.is_none() && self.factors.is_empty() && self.debits.is_empty();
+        let allowed = match frame {
+            Frame::Member(_) => self.member.is_none(),
+            Frame::Year { .. } => before_final_pay,
+            Frame::Post(_) => before_final_pay && !self.years.is_empty(),
+            Frame::FinalPay(_) => before_final_pay && self.has_section(),
+            Frame::Factor(_) => self.debits.is_empty(),
+            Frame::Debit(_) => true,
+        };
+        let first = matches!(frame, Frame::Member(_));
+        unless(allowed && (first || self.member.is_some()), 4)
+    }
+
+    /// Refusal 6.
+    fn try_year(&self, april: u64, revaluation: u64) -> Result<(), u64> {
+        unless((2015..=2100).contains(&april), 6)?;
+        unless(
+            self.years
+                .last()
+                .map_or(true, |last| april == last.april + 1),
+            6,
+        )?;
+        unless(revaluation <= 2_000, 6)?;
+        unless(self.years.len() < MOST_YEARS, 6)
+    }
+
+    /// Whether a factor or debit may name the scheme.
+    fn knows_scheme(&self, scheme: u64) -> bool {
+        scheme == 0 || (scheme == 1 && self.has_section())
+    }
+
+    /// Refusal 10.
+    fn try_factor(&self, factor: &Factor) -> Result<(), u64> {
+        unless(self.knows_scheme(factor.scheme), 10)?;
+        unless((1..=600).contains(&factor.months), 10)?;
+        unless(factor.pension <= 1_000 && factor.lump_sum <= 1_000, 10)?;
+        unless(factor.scheme == 1 || factor.lump_sum == 0, 10)?;
+        let after = |last: &Factor| (factor.scheme, factor.months) > (last.scheme, last.months);
+        unless(self.factors.last().map_or(true, after), 10)
+    }
+
+    /// Refusal 11.
+    fn try_debit(&self, debit: &Debit) -> Result<(), u64> {
+        unless(self.knows_scheme(debit.scheme), 11)?;
+        unless(debit.pot <= LARGEST_PAY, 11)?;
+        unless(debit.factor != 0, 11)?;
+        let after = |last: &Debit| debit.scheme > last.scheme;
+        unless(self.debits.last().map_or(true, after), 11)
+    }
+
+    /// Takes a frame, or refuses it and keeps the case as it is.
+    pub fn take(&mut self, frame: Frame) -> Result<(), u64> {
+        self.try_order(&frame)?;
+        match frame {
+            Frame::Member(member) => {
+                try_dates(member.birth, member.retirement, member.pension_age)?;
+                unless(member.section <= 1, 5)?;
+                self.member = Some(member);
+            }
+            Frame::Year { april, revaluation } => {
+                self.try_year(april, revaluation)?;
+                self.years.push(Year {
+                    april,
+                    revaluation,
+                    posts: Vec::new(),
+                });
+            }
+            Frame::Post(post) => {
+                let year = self.years.last_mut().ok_or(4u64)?;
+                try_post(&year.posts, &post)?;
+                year.posts.push(post);
+            }
+            Frame::FinalPay(final_pay) => {
+                final_pay.tried()?;
+                self.final_pay = Some(final_pay);
+            }
+            Frame::Factor(factor) => {
+                self.try_factor(&factor)?;
+                self.factors.push(factor);
+            }
+            Frame::Debit(debit) => {
+                self.try_debit(&debit)?;
+                self.debits.push(debit);
+            }
+        }
+        Ok(())
+    }
+
+    /// Months early by scheme; nothing without a member or, for the 1995, without a section.
+    pub fn months_early(&self, scheme: u64) -> Option<i64> {
+        let member = self.member?;
+        let pension_age = match scheme {
+            0 => member.pension_age,
+            _ if member.section == 1 => SECTION_PENSION_AGE,
+            _ => return None,
+        };
+        Some(months_before(member.birth, member.retirement, pension_age))
+    }
+
+    /// The factor that reduces a scheme: none if nothing is reduced, refusal 13 if it is missing.
+    pub fn factor(&self, scheme: u64) -> Result<Option<Factor>, u64> {
+        let Some(months @ 1..) = self.months_early(scheme) else {
+            return Ok(None);
+        };
+        let wanted = |factor: &&Factor| factor.scheme == scheme && factor.months as i64 == months;
+        let found = self.factors.iter().find(wanted).ok_or(13u64)?;
+        Ok(Some(*found))
+    }
+
+    /// The debits of both schemes.
+    pub fn benefit_debits(&self) -> Benefits {
+        let of = |scheme: u64| {
+            let debit = self.debits.iter().find(|debit| debit.scheme == scheme);
+            debit.map_or(0, |debit| pension_debit(debit.pot, debit.factor))
+        };
+        Benefits {
+            pension_2015: of(0),
+            pension_1995: of(1),
+            lump_sum: 3 * of(1),
+        }
+    }
+
+    /// The 2015 pension before reduction, of one aggregate for each year.
+    pub fn pension_2015(&self, aggregates: &[u64]) -> u64 {
+        let years = self.years.iter().zip(aggregates);
+        years.fold(0, |pension, (year, &aggregate)| {
+            after_year(pension, year.revaluation, aggregate)
+        })
+    }
+
+    /// Benefits after reduction, of a 2015 pension and of the final pay of a year.
+    pub fn benefits(&self, pension_2015: u64, final_year: usize) -> Result<Benefits, u64> {
+        let pension_1995 = self.final_pay.map_or(0, |pay| pay.pension(final_year));
+        let mut benefits = Benefits {
+            pension_2015,
+            pension_1995,
+            lump_sum: 3 * pension_1995,
+        };
+        if let Some(factor) = self.factor(0)? {
+            benefits.pension_2015 = reduced(benefits.pension_2015, factor.pension);
+        }
+        if let Some(factor) = self.factor(1)? {
+            benefits.pension_1995 = reduced(benefits.pension_1995, factor.pension);
+            benefits.lump_sum = reduced(benefits.lump_sum, factor.lump_sum);
+        }
+        Ok(benefits)
+    }
+
+    /// The year of final pay; year 1 stands for it where there is no section.
+    pub fn final_year(&self) -> usize {
+        self.final_pay.map_or(1, |pay| pay.final_year())
+    }
+
+    /// The benefits after reduction by the steps, before debits.
+    pub fn reduced_benefits(&self) -> Result<Benefits, u64> {
+        let aggregates: Vec<u64> = self.years.iter().map(|y| aggregate(&y.posts)).collect();
+        self.benefits(self.pension_2015(&aggregates), self.final_year())
+    }
+
+    /// The outcome of an accepted case, or the refusal of its closing.
+    pub fn close(&self) -> Result<Outcome, u64> {
+        unless(self.member.is_some(), 4)?;
+        unless(!self.has_section() || self.final_pay.is_some(), 12)?;
+        let had = self.reduced_benefits()?;
+        let debits = self.benefit_debits();
+        let less = |amount: u64, debit: u64| amount.checked_sub(debit).ok_or(14u64);
+        Ok(Outcome {
+            net_2015: less(had.pension_2015, debits.pension_2015)?,
+            net_1995: less(had.pension_1995, debits.pension_1995)?,
+            net_lump_sum: less(had.lump_sum, debits.lump_sum)?,
+            charge: self.final_pay.map_or(0, |pay| pay.charge()),
+            ..Outcome::default()
+        })
+    }
+}
+
+/// The case of a text, or a refusal and its line.
+pub fn read(text: &[u8]) -> Result<Case, (u64, u64)> {
+    if text.len() > LARGEST_TEXT {
+        return Err((1, 0));
+    }
+    let mut case = Case::default();
+    for (number, line) in (1..).zip(lines(text)) {
+        line_bytes(&line)
+            .and_then(|bytes| frame(&bytes))
+            .and_then(|frame| case.take(frame))
+            .map_err(|refusal| (refusal, number))?;
+    }
+    Ok(case)
+}
+
+/// The case call: what a text gives.
+pub fn case(text: &[u8]) -> Outcome {
+    let worked = read(text).and_then(|case| case.close().map_err(|refusal| (refusal, 0)));
+    worked.unwrap_or_else(|(refusal, line)| Outcome {
+        refusal,
+        line,
+        ..Outcome::default()
+    })
+}
+
+/// The printed line of an outcome.
+pub fn printed(outcome: &Outcome) -> Vec<u8> {
+    let line = if outcome.refusal == 0 {
+        format!(
+            "80{:016X}{:016X}{:016X}{:016X}\n",
+            outcome.net_2015, outcome.net_1995, outcome.net_lump_sum, outcome.charge
+        )
+    } else {
+        format!("EE{:02X}{:04X}\n", outcome.refusal, outcome.line)
+    };
+    line.into_bytes()
+}

@@ -1,0 +1,42 @@
+//! A second working of pension cases, written from document 01 alone.
+//!
+//! It shares nothing with the engine and goes another way wherever there is one: posts are sorted
+//! by rate and filled in turn, the aggregate is one exact sum of fractions in wide numbers, months
+//! are counted one by one on a calendar of counted days, and a text is cut into owned lines before
+//! any of them is read.
+//!
+//! Its programs: `second` prints the line of a text, as the case program does; `rivals` tries rival
+//! workings; `compare` holds the engine against it, with the features `engine` or `case` and with
+//! `CANYONSIEVE_LIB_DIR` naming the folder of `libcanyonsieve.a`:
+//!
+//! ```text
+//! CANYONSIEVE_LIB_DIR=.. cargo run --release --features case --bin compare
+//! ```
+
+pub mod benefits;
+pub mod calendar;
+pub mod cases;
+#[cfg(feature = "engine")]
+pub mod engine;
+pub mod frames;
+pub mod posts;
+pub mod random;
+pub mod samples;
+pub mod wide;
+
+pub use benefits::{abatement, charge};
+pub use calendar::months_early;
+pub use cases::{case, printed, Outcome};
+pub use posts::posts;
+
+/// The largest pay or pot in pence.
+pub const LARGEST_PAY: u64 = 1_000_000_000;
+
+/// `Err` with the refusal where the test fails.
+pub(crate) fn unless(passes: bool, refusal: u64) -> Result<(), u64> {
+    if passes {
+        Ok(())
+    } else {
+        Err(refusal)
+    }
+}

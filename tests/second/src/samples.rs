@@ -1,0 +1,6 @@
+//! Inputs drawn from a fixed seed: accepted cases, damaged texts, and the calls apart.
+
+pub mod accepted;
+pub mod calls;
+pub mod damaged;
+pub mod writing;

@@ -1,0 +1,275 @@
+//! Texts that are refused, by every cause that document 01 names.
+
+mod closing;
+mod fields;
+mod lines;
+pub mod mixed;
+mod sheets;
+
+use crate::frames::LARGEST_TEXT;
+use crate::random::Random;
+use crate::LARGEST_PAY;
+
+/// A text with the line at which it is to be refused, 0 for none.
+pub struct Damaged {
+    pub text: Vec<u8>,
+    pub line: u64,
+}
+
+/// A cause of refusal and how to make a text with it.
+pub struct Cause {
+    pub refusal: u64,
+    pub words: &'static str,
+    way: Way,
+}
+
+/// How a text is damaged.
+enum Way {
+    /// A number from low to high is put into a field of a frame of the kind.
+    Field {
+        kind: u8,
+        at: usize,
+        width: usize,
+        low: u64,
+        high: u64,
+    },
+    /// A frame of the kind is put after one of another kind.
+    After { earlier: u8, kind: u8 },
+    /// By a function of its own.
+    Own(fn(&mut Random) -> Damaged),
+}
+
+impl Cause {
+    /// A text with this cause and no earlier one.
+    pub fn damaged(&self, random: &mut Random) -> Damaged {
+        loop {
+            let damaged = self.made(random);
+            if self.refusal == 1 || damaged.text.len() <= LARGEST_TEXT {
+                return damaged;
+            }
+        }
+    }
+
+    fn made(&self, random: &mut Random) -> Damaged {
+        match self.way {
+            Way::Field {
+                kind,
+                at,
+                width,
+                low,
+                high,
+            } => {
+                let number = random.near_ends(low, high);
+                sheets::with_field(random, kind, at, width, number)
+            }
+            Way::After { earlier, kind } => sheets::with_frame_after(random, earlier, kind),
+            Way::Own(make) => make(random),
+        }
+    }
+}
+
+const fn field(
+    refusal: u64,
+    words: &'static str,
+    (kind, at, width): (u8, usize, usize),
+    (low, high): (u64, u64),
+) -> Cause {
+    let way = Way::Field {
+        kind,
+        at,
+        width,
+        low,
+        high,
+    };
+    Cause {
+        refusal,
+        words,
+        way,
+    }
+}
+
+const fn after(words: &'static str, earlier: u8, kind: u8) -> Cause {
+    Cause {
+        refusal: 4,
+        words,
+        way: Way::After { earlier, kind },
+    }
+}
+
+const fn own(refusal: u64, words: &'static str, make: fn(&mut Random) -> Damaged) -> Cause {
+    Cause {
+        refusal,
+        words,
+        way: Way::Own(make),
+    }
+}
+
+/// The highest numbers of one, two and four bytes.
+const BYTE: u64 = 0xFF;
+const PAIR: u64 = 0xFFFF;
+const FOUR: u64 = 0xFFFF_FFFF;
+
+/// The first number past a pay or pot.
+const PAST_PAY: u64 = LARGEST_PAY + 1;
+
+/// Every cause that document 01 names, in its order.
+pub const CAUSES: &[Cause] = &[
+    own(1, "a text one byte over", lines::one_byte_over),
+    own(1, "a text far over", lines::far_over),
+    own(2, "an empty line", lines::empty_line),
+    own(2, "a lower-case letter", lines::lower_case),
+    own(2, "another byte", lines::other_byte),
+    own(
+        2,
+        "another byte in a line too long",
+        lines::other_byte_far_on,
+    ),
+    own(2, "an odd digit count", lines::odd_count),
+    own(
+        2,
+        "an odd digit count of an unknown kind",
+        lines::odd_unknown,
+    ),
+    own(2, "no final 0A", lines::no_end),
+    own(3, "an unknown kind", lines::unknown_kind),
+    own(3, "one byte too few", lines::byte_less),
+    own(3, "one byte too many", lines::byte_more),
+    own(3, "the kind alone", lines::kind_alone),
+    own(3, "a line far too long", lines::far_too_long),
+    own(3, "a wrong length out of order", lines::length_and_order),
+    own(4, "an empty text", lines::empty_text),
+    own(4, "a first frame that is no 01", lines::no_member_first),
+    after("a second 01 after 01", 1, 1),
+    after("a second 01 after 02", 2, 1),
+    after("a second 01 after 03", 3, 1),
+    after("a second 01 after 04", 4, 1),
+    after("a second 01 after 05", 5, 1),
+    after("a second 01 after 06", 6, 1),
+    after("03 before any 02", 1, 3),
+    after("02 after 04", 4, 2),
+    after("02 after 05", 5, 2),
+    after("02 after 06", 6, 2),
+    after("03 after 04", 4, 3),
+    after("03 after 05", 5, 3),
+    after("03 after 06", 6, 3),
+    after("a second 04", 4, 4),
+    after("04 after 05", 5, 4),
+    after("04 after 06", 6, 4),
+    after("05 after 06", 6, 5),
+    own(4, "04 without section", lines::no_section),
+    field(5, "birth year too early", (1, 1, 2), (0, 1899)),
+    field(5, "birth year too late", (1, 1, 2), (2101, PAIR)),
+    field(5, "birth month 0", (1, 3, 1), (0, 0)),
+    field(5, "birth month above 12", (1, 3, 1), (13, BYTE)),
+    field(5, "birth day 0", (1, 4, 1), (0, 0)),
+    field(5, "birth day above 31", (1, 4, 1), (32, BYTE)),
+    own(5, "birth day past its month", fields::birth_past_month),
+    field(5, "retirement year too early", (1, 5, 2), (0, 1899)),
+    field(5, "retirement year too late", (1, 5, 2), (2101, PAIR)),
+    field(5, "retirement month 0", (1, 7, 1), (0, 0)),
+    field(5, "retirement month above 12", (1, 7, 1), (13, BYTE)),
+    field(5, "retirement day 0", (1, 8, 1), (0, 0)),
+    field(5, "retirement day above 31", (1, 8, 1), (32, BYTE)),
+    own(
+        5,
+        "retirement day past its month",
+        fields::retirement_past_month,
+    ),
+    own(5, "29 February of a common year", fields::no_leap_day),
+    own(5, "retirement days before birth", fields::before_birth_day),
+    own(
+        5,
+        "retirement months before birth",
+        fields::before_birth_month,
+    ),
+    own(
+        5,
+        "retirement years before birth",
+        fields::before_birth_year,
+    ),
+    field(5, "section above 1", (1, 9, 1), (2, BYTE)),
+    field(5, "pension age below 55", (1, 10, 1), (0, 54)),
+    field(5, "pension age above 75", (1, 10, 1), (76, BYTE)),
+    field(6, "April year below 2015", (2, 1, 2), (0, 2014)),
+    field(6, "April year above 2100", (2, 1, 2), (2101, PAIR)),
+    own(6, "the April year before again", fields::same_year),
+    own(6, "an April year left out", fields::year_left_out),
+    own(6, "an April year of before", fields::earlier_year),
+    own(6, "April year 2101 after 2100", fields::year_2101),
+    field(6, "revaluation above 2,000", (2, 3, 2), (2_001, PAIR)),
+    own(6, "a 51st year", fields::fifty_first_year),
+    field(7, "h = 0", (3, 1, 2), (0, 0)),
+    own(7, "h above w", fields::hours_past_week),
+    field(7, "w above 10,080", (3, 3, 2), (10_081, PAIR)),
+    field(7, "p too large", (3, 5, 4), (PAST_PAY, FOUR)),
+    own(7, "a 17th post", fields::seventeenth_post),
+    own(7, "7 before 8: p too large", fields::seven_before_eight),
+    own(7, "7 before 8: a 17th post", fields::seventeenth_whole_time),
+    own(8, "a second whole-time post", fields::second_whole_time),
+    field(9, "pay 4 too large", (4, 1, 4), (PAST_PAY, FOUR)),
+    field(9, "pay 3 too large", (4, 5, 4), (PAST_PAY, FOUR)),
+    field(9, "pay 2 too large", (4, 9, 4), (PAST_PAY, FOUR)),
+    field(9, "pay 1 too large", (4, 13, 4), (PAST_PAY, FOUR)),
+    field(9, "allowance 3 above 1,000", (4, 17, 2), (1_001, PAIR)),
+    field(9, "allowance 2 above 1,000", (4, 19, 2), (1_001, PAIR)),
+    field(9, "allowance 1 above 1,000", (4, 21, 2), (1_001, PAIR)),
+    field(9, "controls above 7", (4, 23, 1), (8, BYTE)),
+    field(9, "days above 16,425", (4, 24, 2), (16_426, PAIR)),
+    field(9, "factor 0", (4, 26, 2), (0, 0)),
+    field(9, "factor above 10,000", (4, 26, 2), (10_001, PAIR)),
+    field(10, "scheme above 1", (5, 1, 1), (2, BYTE)),
+    own(
+        10,
+        "scheme 1 without section",
+        fields::factor_without_section,
+    ),
+    field(10, "months 0", (5, 2, 2), (0, 0)),
+    field(10, "months above 600", (5, 2, 2), (601, PAIR)),
+    field(10, "pension factor above 1,000", (5, 4, 2), (1_001, PAIR)),
+    own(10, "lump factor above 1,000", fields::lump_factor_1995),
+    own(
+        10,
+        "lump factor not 0 for scheme 0",
+        fields::lump_factor_2015,
+    ),
+    own(10, "the months before again", fields::same_months),
+    own(10, "earlier months of the scheme", fields::earlier_months),
+    own(10, "scheme 0 after scheme 1", fields::factor_scheme_back),
+    field(11, "scheme above 1", (6, 1, 1), (2, BYTE)),
+    own(
+        11,
+        "scheme 1 without section",
+        fields::debit_without_section,
+    ),
+    field(11, "pot too large", (6, 2, 4), (PAST_PAY, FOUR)),
+    field(11, "factor 0", (6, 6, 2), (0, 0)),
+    own(11, "the scheme before again", fields::same_scheme),
+    own(11, "scheme 0 after scheme 1", fields::debit_scheme_back),
+    own(12, "section 1 without 04", closing::no_final_pay),
+    own(12, "12 before 13 and 14", closing::twelve_first),
+    own(13, "no factor of the 2015 Scheme", closing::no_factor_2015),
+    own(13, "no factor of the 1995 Section", closing::no_factor_1995),
+    own(13, "no factor of either", closing::no_factor),
+    own(
+        13,
+        "no factor for a pension of 0",
+        closing::no_factor_of_nought,
+    ),
+    own(13, "months early above 600", closing::too_early),
+    own(13, "13 before 14", closing::thirteen_first),
+    own(
+        14,
+        "a debit above the 2015 pension",
+        closing::debit_past_2015,
+    ),
+    own(
+        14,
+        "a debit above the 1995 pension",
+        closing::debit_past_1995,
+    ),
+    own(
+        14,
+        "a debit above the lump sum alone",
+        closing::debit_past_lump_sum,
+    ),
+];
