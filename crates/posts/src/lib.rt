@@ -6,6 +6,7 @@ mod call;
 mod rates;
 mod year;
 
+pub use call::allocate_into;
 pub use call::post_at;
 pub use call::posts_call;
 pub use rates::compare_rates;
