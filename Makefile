@@ -10,7 +10,7 @@ STAGE = target/stage
 CARGO = CARGO_TARGET_DIR=$(CURDIR)/target/second CANYONSIEVE_LIB_DIR=$(CURDIR)/target/staticlib cargo
 SECOND = --release --offline --locked --manifest-path tests/second/Cargo.toml
 
-.PHONY: all library header program install test c-test examples payroll second clean
+.PHONY: all library header program install test c-test memcheck examples payroll second oracle clean
 
 all: library header program
 
@@ -44,6 +44,10 @@ c-test: library header
 	$(CC) $(STRICT) $(CFLAGS) -Iinclude tests/c/calls.c $(LIBRARY) -o target/c/calls
 	target/c/calls
 
+# The same under valgrind.
+memcheck: c-test
+	valgrind -q --error-exitcode=1 target/c/calls
+
 # Every example text gives its line.
 examples: program
 	for text in examples/*.txt; do $(PROGRAM) < $$text | cmp - $${text%.txt}.line || exit 1; done
@@ -61,6 +65,10 @@ second: library
 	$(CARGO) test $(SECOND)
 	$(CARGO) run $(SECOND) --features case --bin compare
 	$(CARGO) run $(SECOND) --features case --bin rivals
+
+# What crates/running/stdout must hold, worked from document 01 in exact fractions.
+oracle:
+	python3 tests/running_oracle.py | cmp - crates/running/stdout
 
 clean:
 	rm -rf target

@@ -1,12 +1,11 @@
 -- How large each step's result is, so that code works in 64 bits.
 use Prim.Native.Nat.{ℕ, _*_, _^_, _≤_, _<_}
-use mathlib.Core.Bool.{Bool, true, false, cond}
 use native.Mathlib.Nat.{mul-le-mul, le-refl}
 use native.Mathlib.Omega.{arith}
 use Rattle.measures.specs.Rounding.{rounded}
 use Rattle.measures.proofs.Rounding.{rounded-bound}
 use Rattle.benefits.specs.declared.FinalPay.{FinalPay}
-use Rattle.benefits.specs.Steps.{revalued, accrued, finalPay, fullService, sectionPension, lumpSum, reduced, pensionDebit, lumpDebit, controlled, raised, allowed3, allowed2, allowed1, excess, excessPension, chargeFrom, charge, enhancement, abatement}
+use Rattle.benefits.specs.Steps.{revalued, accrued, finalPay, fullService, sectionPension, lumpSum, pensionDebit, excess, excessPension, chargeFrom, charge, enhancement, abatement}
 use Rattle.benefits.specs.Bounds.{FinalPayBounds}
 use Rattle.benefits.proofs.Monotone.{rise}
 
@@ -31,26 +30,9 @@ pub lump-limit : (pension : ℕ) → pension ≤ 562500000 → lumpSum pension �
 unfolding lumpSum
 lump-limit pension h = omega arith
 
-pub reduced-limit : (amount factor : ℕ) → factor ≤ 1000 → reduced amount factor ≤ amount
-unfolding reduced
-reduced-limit amount factor h = rounded-bound _ amount 1000 (omega arith) (mul-le-mul (le-refl amount) h)
-
 pub debit-limit : (pot factor : ℕ) → pot ≤ 1000000000 → 0 < factor → pensionDebit pot factor ≤ 100000000000
 unfolding pensionDebit
 debit-limit pot factor h k = rounded-bound _ 100000000000 factor k (omega arith)
-
-pub lump-debit-limit : (debit : ℕ) → debit ≤ 100000000000 → lumpDebit debit ≤ 300000000000
-unfolding lumpDebit
-lump-debit-limit debit h = omega arith
-
-pub raised-limit : (pay allowance : ℕ) → allowance ≤ 1000 → raised pay allowance ≤ 2 * pay
-unfolding raised
-raised-limit pay allowance h = rounded-bound _ (2 * pay) 1000 (omega arith) (omega (arith, rise 1000 (le-refl pay) h))
-
--- a year's allowed pay, controlled or not
-allowed-limit : (t : Bool) (base allowance pay : ℕ) → base ≤ 1000000000 → allowance ≤ 1000 → pay ≤ 1000000000 → cond t (raised base allowance) pay ≤ 2000000000
-allowed-limit true base allowance pay h k l = omega (arith, raised-limit base allowance k)
-allowed-limit false base allowance pay h k l = omega arith
 
 module _ (f : FinalPay) (h : FinalPayBounds f) where
   pub finalPay-limit : finalPay f ≤ 1000000000
@@ -60,18 +42,6 @@ module _ (f : FinalPay) (h : FinalPayBounds f) where
   pub excess-limit : excess f ≤ 1000000000
   unfolding excess
   excess-limit = omega (arith, finalPay-limit)
-
-  pub allowed3-limit : allowed3 f ≤ 2000000000
-  unfolding allowed3
-  allowed3-limit = allowed-limit (controlled (f .controls) 3) _ _ _ (h .pay4) (h .allowance3) (h .pay3)
-
-  pub allowed2-limit : allowed2 f ≤ 2000000000
-  unfolding allowed2
-  allowed2-limit = allowed-limit (controlled (f .controls) 2) _ _ _ (omega arith) (h .allowance2) (h .pay2)
-
-  pub allowed1-limit : allowed1 f ≤ 2000000000
-  unfolding allowed1
-  allowed1-limit = allowed-limit (controlled (f .controls) 1) _ _ _ (omega arith) (h .allowance1) (h .pay1)
 
 -- for any limit on the excess
 pub chargeFrom-limit : (k over days factor : ℕ) → over ≤ 16 * k → days ≤ 16425 → factor ≤ 10000 → chargeFrom over days factor ≤ 927 * k

@@ -154,9 +154,6 @@ unfoldable pub keepDecoded : Kept → Decoded → Kept
 keepDecoded k (Decoded.Frame f) = keep k f
 keepDecoded k (Decoded.Refused number) = k
 
-unfoldable pub refusalOfRaw : Kept → List ℕ → ℕ
-refusalOfRaw k bytes = refusalOfDecoded k (decoded bytes)
-
 abbrev pub decodedAll : List (List ℕ) → List Decoded
 decodedAll [] = []
 decodedAll (bytes ∷ raws) = decoded bytes ∷ decodedAll raws
