@@ -10,7 +10,7 @@ STAGE = target/stage
 CARGO = CARGO_TARGET_DIR=$(CURDIR)/target/second CANYONSIEVE_LIB_DIR=$(CURDIR)/target/staticlib cargo
 SECOND = --release --offline --locked --manifest-path tests/second/Cargo.toml
 
-.PHONY: all library header program install test c-test memcheck examples payroll second oracle clean
+.PHONY: all library header program install test c-test memcheck examples payroll second oracle fuzz bench clean
 
 all: library header program
 
@@ -65,6 +65,21 @@ second: library
 	$(CARGO) test $(SECOND)
 	$(CARGO) run $(SECOND) --features case --bin compare
 	$(CARGO) run $(SECOND) --features case --bin rivals
+
+# A fuzzer over the calls, started from the examples. Not part of the gate.
+FUZZ_SECONDS ?= 60
+fuzz: library
+	mkdir -p target/fuzz/corpus
+	for text in examples/*.txt; do { printf x; cat $$text; } > target/fuzz/corpus/$$(basename $$text); done
+	clang -g -O1 -fsanitize=fuzzer,address -Wall -Wextra -Werror -Iinclude tests/fuzz/calls.c $(LIBRARY) -o target/fuzz/calls
+	target/fuzz/calls -max_total_time=$(FUZZ_SECONDS) -max_len=34000 -timeout=10 target/fuzz/corpus
+
+# The time of a case beside the second program's and a plain decoder's. Not part of the gate.
+bench: library
+	mkdir -p target/bench
+	$(CC) -std=c99 -O3 -Wall -Wextra -Werror -c bench/decoder.c -o target/bench/decoder.o
+	$(AR) rcs target/bench/libdecoder.a target/bench/decoder.o
+	CANYONSIEVE_DECODER_DIR=$(CURDIR)/target/bench $(CARGO) run --release --offline --locked --manifest-path bench/Cargo.toml
 
 # What crates/running/stdout must hold, worked from document 01 in exact fractions.
 oracle:

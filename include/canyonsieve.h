@@ -129,7 +129,7 @@ struct canyonsieve_figure canyonsieve_charge(uint64_t pay4, uint64_t pay3, uint6
  * Refusals: 1, the text is too long (line 0); then line by line, the first line being 1, and the first line that is refused
  * ends the reading: 2, 3, 4, then 5 to 11 by the frame's own fields; at the end, line 0: 4, 12, 13, 14.
  *
- * It needs some 10 kilobytes of stack. */
+ * It needs under 8 kilobytes of stack, the other calls under 4. */
 struct canyonsieve_outcome canyonsieve_case(const uint8_t *text, size_t length);
 
 /* Months early: from the age at retirement, in completed months, to pension age. Below 0 for months late.
