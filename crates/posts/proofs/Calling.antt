@@ -15,6 +15,7 @@ use Rattle.posts.specs.declared.Post.{Post}
 use Rattle.posts.specs.declared.YearPosts.{YearPosts}
 use Rattle.posts.specs.Posts.{parts, aggregatePay}
 use Rattle.posts.specs.Refusals.{postRefusal, postsRefusal}
+use Rattle.posts.specs.Lent.{lengthsRefusal, lentRefusal, placesUnless}
 use Rattle.posts.specs.Call.{postAt, postsFrom, postsIn, callRefusal, callAnswer, placesAfter}
 use Rattle.posts.specs.Year.{postsOf, noPosts, Held, joinedBy}
 use Rattle.posts.proofs.Standing.{held-joined, posts-joined}
@@ -106,33 +107,48 @@ write-turn s d i hs hd =
 
 -- ---- the tests of the lengths, in their order
 
-module _ (bytes : List ℕ) (places : ℕ) where
-  pub call-uneven : (length bytes % 8 ≡ 0 → ⊥) → callRefusal bytes places ≡ 23
-  unfolding callRefusal
-  call-uneven n = rw (ne-eqb _ _ n) refl
+module _ (posts places : ℕ) where
+  pub lengths-many : 16 < posts → lengthsRefusal posts places ≡ 21
+  unfolding lengthsRefusal
+  lengths-many g = rw (lt-leb _ _ g) refl
 
-  module _ (even : length bytes % 8 ≡ 0) where
-    pub call-many : 16 < length bytes / 8 → callRefusal bytes places ≡ 21
+  module _ (few : posts ≤ 16) where
+    pub lengths-short : places < posts → lengthsRefusal posts places ≡ 22
+    unfolding lengthsRefusal
+    lengths-short g = rw (le-leb _ _ few, lt-leb _ _ g) refl
+
+    pub lengths-fit : posts ≤ places → lengthsRefusal posts places ≡ 0
+    unfolding lengthsRefusal
+    lengths-fit g = rw (le-leb _ _ few, le-leb _ _ g) refl
+
+module _ (bytes : List ℕ) where
+  pub posts-length : length (postsIn bytes) ≡ length bytes / 8
+  unfolding postsIn
+  posts-length = from-length bytes 0 (length bytes / 8)
+
+  module _ (places : ℕ) where
+    pub call-uneven : (length bytes % 8 ≡ 0 → ⊥) → callRefusal bytes places ≡ 23
     unfolding callRefusal
-    call-many m = rw (eq-eqb _ _ even, lt-leb _ _ m) refl
+    call-uneven n = rw (ne-eqb _ _ n) refl
 
-    module _ (few : length bytes / 8 ≤ 16) where
-      pub call-short : places < length bytes / 8 → callRefusal bytes places ≡ 22
-      unfolding callRefusal
-      call-short s = rw (eq-eqb _ _ even, le-leb _ _ few, lt-leb _ _ s) refl
+    -- with whole posts the refusal is that of the posts themselves
+    pub call-even : length bytes % 8 ≡ 0 → callRefusal bytes places ≡ lentRefusal (postsIn bytes) places
+    unfolding callRefusal
+    call-even even = rw (eq-eqb _ _ even) refl
 
-      pub call-posts : length bytes / 8 ≤ places → callRefusal bytes places ≡ postsRefusal [] (postsIn bytes)
-      unfolding callRefusal
-      call-posts s = rw (eq-eqb _ _ even, le-leb _ _ few, le-leb _ _ s) refl
+    module _ (even : length bytes % 8 ≡ 0) (n : ℕ) (e : lengthsRefusal (length bytes / 8) places ≡ n) where
+      pub call-lengths : callRefusal bytes places ≡ first n (postsRefusal [] (postsIn bytes))
+      unfolding lentRefusal
+      call-lengths = call-even even ∙ rw (posts-length, e) refl
 
 -- ---- what the call gives and leaves, by its refusal
 
 module _ (bytes places : List ℕ) (r : ℕ) (e : callRefusal bytes (length places) ≡ r) where
   pub call-refused : (r ≡ 0 → ⊥) → (Answer.Refused r ≡ callAnswer bytes (length places)) × (places ≡ placesAfter bytes places)
-  unfolding callAnswer placesAfter answerOf
+  unfolding callAnswer placesAfter placesUnless answerOf
   call-refused n = (rw (e, ne-eqb _ _ n) refl, rw (e, ne-eqb _ _ n) refl)
 
   pub call-accepted : r ≡ 0 → (a : Pence) (after : List ℕ) → a .0 ≡ aggregatePay (postsIn bytes) → after ≡ parts (postsIn bytes) ++ drop (length (postsIn bytes)) places
       → (Answer.Amount a ≡ callAnswer bytes (length places)) × (after ≡ placesAfter bytes places)
-  unfolding callAnswer placesAfter answerOf
+  unfolding callAnswer placesAfter placesUnless answerOf
   call-accepted z a after f g = (rw (e, z, ← f) refl, rw (e, z) g)

@@ -3,7 +3,6 @@ use Prim.Native.Nat.{ℕ, _+_, _*_, _-_, _≤_, _<_, min}
 use mathlib.Core.Bool.{Bool, cond}
 use mathlib.Core.List.{List, [], _∷_, _++_}
 use lib.Dec.{leb, ltb}
-use Rattle.measures.specs.Rounding.{rounded}
 use lib.ListN.{getD}
 
 -- a claim: the parts it may have at most, and its rate n/d, what a part is worth
@@ -78,9 +77,3 @@ abbrev pub numerator : List Claim → List ℕ → ℕ
 numerator [] qs = 0
 numerator (x ∷ xs) [] = 0
 numerator (x ∷ xs) (q ∷ qs) = q * x .n * denominator xs + numerator xs qs * x .d
-
--- The same with each claim rounded by itself, H parts to a minute. It is not the sum rounded once, but for the division above it is equal.
-unfoldable pub paid : ℕ → List Claim → List ℕ → ℕ
-paid H [] cs = 0
-paid H (x ∷ xs) [] = 0
-paid H (x ∷ xs) (a ∷ cs) = rounded (a * x .n) (x .d * H) + paid H xs cs

@@ -1,6 +1,7 @@
 pub mod Division
 pub mod Posts
 pub mod Refusals
+pub mod Lent
 pub mod Call
 pub mod Rates
 pub mod Sums

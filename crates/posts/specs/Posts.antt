@@ -18,6 +18,10 @@ w x = x .whole .0
 abbrev pub p : Post → ℕ
 p x = x .pay .0
 
+-- a post of h, w and p
+abbrev pub postOf : ℕ → ℕ → ℕ → Post
+postOf minutes week pence = record { contracted = record { 0 = minutes }; whole = record { 0 = week }; pay = record { 0 = pence } }
+
 -- "H is the sum of h"
 abbrev pub contractedMinutes : List Post → ℕ
 contractedMinutes [] = 0

@@ -1,18 +1,21 @@
--- The rates p/h of two posts compared, by cross products.
-use Prim.Native.Nat.{_*_}
+-- The rates p/h of two posts compared.
 use mathlib.Core.Bool.{Bool, cond}
-use lib.Dec.{leb, ltb}
 use Rattle.posts.specs.declared.Post.{Post}
 use Rattle.posts.specs.declared.Comparison.{Comparison}
-use Rattle.posts.specs.Posts.{h, p}
+use Rattle.posts.specs.Division.{Claim, higher, noLower}
+use Rattle.posts.specs.Posts.{claim}
+
+-- a post by its rate alone
+abbrev pub byRate : Post → Claim
+byRate x = claim 0 x
 
 -- the rate of x is higher than, lower than or equal to that of y
 unfoldable pub comparison : Post → Post → Comparison
 comparison x y =
-    cond (ltb (p y * h x) (p x * h y)) Comparison.Higher
-    (cond (ltb (p x * h y) (p y * h x)) Comparison.Lower
+    cond (higher (byRate y) (byRate x)) Comparison.Higher
+    (cond (higher (byRate x) (byRate y)) Comparison.Lower
     Comparison.Equal)
 
--- whether y goes before x: at a higher rate, or at an equal one where y stands earlier in the list
+-- whether y goes before x: "of equal rates the post earlier in the list goes first"
 abbrev pub rankedBefore : Post → Bool → Post → Bool
-rankedBefore x earlier y = cond earlier (leb (p x * h y) (p y * h x)) (ltb (p x * h y) (p y * h x))
+rankedBefore x earlier y = cond earlier (noLower (byRate x) (byRate y)) (higher (byRate x) (byRate y))

@@ -8,12 +8,12 @@ use Rattle.posts.specs.declared.Post.{Post}
 use Rattle.posts.specs.declared.YearPosts.{YearPosts}
 use Rattle.posts.specs.declared.Allocation.{Allocation}
 use Rattle.posts.specs.declared.call.PostsRead.{PostsRead}
-use Rattle.posts.specs.Posts.{h, w, contractedMinutes, weightedParts, wholeTime, anyWholeTime, parts, aggregatePay}
+use Rattle.posts.specs.Posts.{postOf, h, w, contractedMinutes, weightedParts, wholeTime, anyWholeTime, parts, aggregatePay}
 use Rattle.posts.specs.Refusals.{postStands, postsRefusal}
 
 -- a place that holds no post
 abbrev pub noPost : Post
-noPost = record { contracted = record { 0 = 0 }; whole = record { 0 = 0 }; pay = record { 0 = 0 } }
+noPost = postOf 0 0 0
 
 -- the posts that it holds, in list order
 abbrev pub postsOf : YearPosts → List Post

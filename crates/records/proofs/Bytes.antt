@@ -1,22 +1,17 @@
 -- The call on records and the call on bytes: where bytes spell the records, both give the same answer and leave the same places.
-use Prim.Native.Nat.{ℕ, _/_, _%_}
+use Prim.Native.Nat.{ℕ, _%_}
 use mathlib.Core.List.{List}
 use mathlib.Core.Path.{_≡_, refl}
 use lib.ListN.{length}
-use borrow.Author.Tests.{eq-eqb}
+use Rattle.posts.specs.Lent.{lentRefusal}
 use Rattle.posts.specs.Call.{postsIn, callRefusal, callAnswer, placesAfter}
-use Rattle.posts.proofs.Calling.{from-length}
-use Rattle.records.specs.Records.{recordsRefusal, recordsAnswer, recordsPlaces}
+use Rattle.posts.proofs.Calling.{call-even}
+use Rattle.records.specs.Records.{recordsAnswer, recordsPlaces}
 
 -- "8 bytes each": a length that is a multiple of 8 is that of whole posts
 module _ (bytes : List ℕ) (whole : length bytes % 8 ≡ 0) where
-  count : length (postsIn bytes) ≡ length bytes / 8
-  unfolding postsIn
-  count = from-length bytes 0 (length bytes / 8)
-
-  pub same-refusal : (places : ℕ) → callRefusal bytes places ≡ recordsRefusal (postsIn bytes) places
-  unfolding callRefusal recordsRefusal
-  same-refusal places = rw (eq-eqb _ _ whole, count) refl
+  pub same-refusal : (places : ℕ) → callRefusal bytes places ≡ lentRefusal (postsIn bytes) places
+  same-refusal places = call-even bytes places whole
 
   pub same-answer : (places : ℕ) → callAnswer bytes places ≡ recordsAnswer (postsIn bytes) places
   unfolding callAnswer recordsAnswer

@@ -18,12 +18,13 @@ use Rattle.posts.specs.declared.Post.{Post}
 use Rattle.posts.specs.declared.YearPosts.{YearPosts}
 use Rattle.posts.specs.Posts.{parts, aggregatePay}
 use Rattle.posts.specs.Refusals.{postRefusal, postsRefusal}
+use Rattle.posts.specs.Lent.{lengthsRefusal, lentRefusal, placesUnless}
 use Rattle.posts.specs.Year.{noPost, noPosts, postsOf, Held, joinedBy}
 use Rattle.posts.proofs.Standing.{held-joined, posts-joined}
 use Rattle.posts.proofs.Calling.{held-none}
 use Rattle.records.specs.declared.Reading.{Reading}
-use Rattle.records.specs.Records.{recordsRefusal, recordsAnswer, recordsPlaces}
-use Rattle.records.specs.Reading.{lengthsRefusal, begun, refusalOn, readOn, Finishing, Ended}
+use Rattle.records.specs.Records.{recordsAnswer, recordsPlaces}
+use Rattle.records.specs.Reading.{begun, refusalOn, readOn, Finishing, Ended}
 
 -- ---- refusals tried in order
 
@@ -52,19 +53,6 @@ refusal-end before (y ∷ ys) x =
 -- ---- what the code hands back at each step
 
 module _ (records places : ℕ) where
-  pub lengths-many : 16 < records → lengthsRefusal records places ≡ 21
-  unfolding lengthsRefusal
-  lengths-many g = rw (lt-leb _ _ g) refl
-
-  module _ (few : records ≤ 16) where
-    pub lengths-short : places < records → lengthsRefusal records places ≡ 22
-    unfolding lengthsRefusal
-    lengths-short g = rw (le-leb _ _ few, lt-leb _ _ g) refl
-
-    pub lengths-fit : records ≤ places → lengthsRefusal records places ≡ 0
-    unfolding lengthsRefusal
-    lengths-fit g = rw (le-leb _ _ few, le-leb _ _ g) refl
-
   pub begun-by : (y : YearPosts) (n : ℕ) → y ≡ noPosts → lengthsRefusal records places ≡ n → _≡_ {A = Reading} (record { year = y; refusal = n }) (begun records places)
   unfolding begun
   begun-by y n e f = rw (e, f) refl
@@ -85,11 +73,11 @@ module _ (s : Reading) (x : Post) where
 
 module _ (s : Reading) (zs : List ℕ) where
   pub ended-refused : (s .refusal ≡ 0 → ⊥) → Ended s zs (Answer.Refused (s .refusal)) zs
-  unfolding answerOf
+  unfolding placesUnless answerOf
   ended-refused n = (rw (ne-eqb _ _ n) refl, rw (ne-eqb _ _ n) refl)
 
   pub ended-accepted : s .refusal ≡ 0 → (a : Pence) (after : List ℕ) → a .0 ≡ aggregatePay (postsOf (s .year)) → after ≡ parts (postsOf (s .year)) ++ drop (length (postsOf (s .year))) zs → Ended s zs (Answer.Amount a) after
-  unfolding answerOf
+  unfolding placesUnless answerOf
   ended-accepted z a after f g = (rw (z, ← f) refl, rw z g)
 
 -- ---- reading
@@ -144,9 +132,9 @@ module _ (ys : List Post) (zs : List ℕ) (s : Reading) (so : ReadTo (length ys)
   all : ReadTo (length ys) (length zs) ys s
   all = rw take-length at so
 
-  refused : s .refusal ≡ recordsRefusal ys (length zs)
-  unfolding recordsRefusal lengthsRefusal
-  refused = all .refusal ∙ first-first (unless (leb (length ys) 16) 21) (unless (leb (length ys) (length zs)) 22) (postsRefusal [] ys)
+  refused : s .refusal ≡ lentRefusal ys (length zs)
+  unfolding lentRefusal
+  refused = all .refusal
 
   -- no refusal, so there are places enough
   fits : s .refusal ≡ 0 → length ys ≤ length zs
@@ -160,7 +148,7 @@ module _ (ys : List Post) (zs : List ℕ) (s : Reading) (so : ReadTo (length ys)
 
   -- the definitions' answer and places are those after the last record
   pub read-end : Ended s zs (recordsAnswer ys (length zs)) (recordsPlaces ys zs)
-  unfolding recordsAnswer recordsPlaces answerOf
+  unfolding recordsAnswer recordsPlaces placesUnless answerOf
   read-end = rw (← refused) (by (eqb (s .refusal) 0) refl)
     where
       by : (t : Bool) → eqb (s .refusal) 0 ≡ t → (cond t (Answer.Amount (record { 0 = aggregatePay ys })) (Answer.Refused (s .refusal)) ≡ cond t (Answer.Amount (record { 0 = aggregatePay (postsOf (s .year)) })) (Answer.Refused (s .refusal)))

@@ -2,21 +2,18 @@
 use Prim.Native.Nat.{ℕ, _≤_}
 use mathlib.Core.Path.{_≡_}
 use mathlib.Core.Bool.{cond}
-use mathlib.Core.List.{List, _++_}
-use lib.Dec.{leb, eqb}
-use lib.ListN.{length, drop}
+use mathlib.Core.List.{List}
+use lib.Dec.{eqb}
+use lib.ListN.{length}
 use Rattle.measures.specs.declared.Answer.{Answer}
 use Rattle.measures.specs.Answers.{answerOf}
-use Rattle.measures.specs.Refusals.{unless, first}
+use Rattle.measures.specs.Refusals.{first}
 use Rattle.posts.specs.declared.Post.{Post}
-use Rattle.posts.specs.Posts.{parts, aggregatePay}
+use Rattle.posts.specs.Posts.{aggregatePay}
 use Rattle.posts.specs.Refusals.{postRefusal}
+use Rattle.posts.specs.Lent.{lengthsRefusal, placesUnless}
 use Rattle.posts.specs.Year.{postsOf, noPosts, Held, joinedBy}
 use Rattle.records.specs.declared.Reading.{Reading}
-
--- "21, over 16; 22, fewer lent places for parts than posts"
-unfoldable pub lengthsRefusal : ℕ → ℕ → ℕ
-lengthsRefusal records places = first (unless (leb records 16) 21) (unless (leb records places) 22)
 
 -- before the first record
 unfoldable pub begun : ℕ → ℕ → Reading
@@ -39,4 +36,4 @@ pub record Finishing (read : Reading) (places : ℕ) : Type 0 where
 abbrev pub Ended : Reading → List ℕ → Answer → List ℕ → Type 0
 Ended read places answer after =
     (answer ≡ answerOf (read .refusal) (aggregatePay (postsOf (read .year))))
-    × (after ≡ cond (eqb (read .refusal) 0) (parts (postsOf (read .year)) ++ drop (length (postsOf (read .year))) places) places)
+    × (after ≡ placesUnless (read .refusal) (postsOf (read .year)) places)

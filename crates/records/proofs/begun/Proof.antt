@@ -1,5 +1,6 @@
 -- `records::begun` meets its contract.
-use Rattle.records.proofs.Calling.{lengths-many, lengths-short, lengths-fit, begun-by}
+use Rattle.posts.proofs.Calling.{lengths-many, lengths-short, lengths-fit}
+use Rattle.records.proofs.Calling.{begun-by}
 use borrow.Author.Needs.{needs}
 use Rattle.records.proofs.begun.Statement.{statement}
 use Rattle.records.proofs.begun.Tie as tie

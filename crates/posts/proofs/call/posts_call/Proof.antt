@@ -7,7 +7,7 @@ use Rattle.posts.specs.declared.Post.{Post}
 use Rattle.posts.specs.Posts.{parts, aggregatePay}
 use Rattle.posts.specs.Call.{postsIn}
 use Rattle.posts.proofs.Standing.{posts-count}
-use Rattle.posts.proofs.Calling.{from-length, call-uneven, call-many, call-short, call-posts, call-refused, call-accepted}
+use Rattle.posts.proofs.Calling.{from-length, lengths-many, lengths-short, lengths-fit, call-uneven, call-lengths, call-refused, call-accepted}
 use borrow.Author.Needs.{needs}
 use native.Mathlib.Omega.{arith}
 use Rattle.posts.proofs.call.posts_call.Statement.{statement}
@@ -21,12 +21,12 @@ returns c =
 returns-2 : tie.Need-returns-2
 returns-2 c =
     let s = c .before .before .before .before in
-    call-refused (s .args .bytes .now) (s .args .places .now) 21 (call-many _ _ (c .before .if1 .left) (c .if2 .taken)) (omega arith)
+    call-refused (s .args .bytes .now) (s .args .places .now) 21 (call-lengths _ _ (c .before .if1 .left) 21 (lengths-many _ _ (c .if2 .taken))) (omega arith)
 
 returns-3 : tie.Need-returns-3
 returns-3 c =
     let s = c .before .before .before .before .before in
-    call-refused (s .args .bytes .now) (s .args .places .now) 22 (call-short _ _ (c .before .before .if1 .left) (c .before .if2 .left) (c .if3 .taken)) (omega arith)
+    call-refused (s .args .bytes .now) (s .args .places .now) 22 (call-lengths _ _ (c .before .before .if1 .left) 22 (lengths-short _ _ (c .before .if2 .left) (c .if3 .taken))) (omega arith)
 
 read-posts-requires : tie.Need-read-posts-requires
 read-posts-requires c κs = (c .before .if2 .left, omega arith)
@@ -37,7 +37,7 @@ returns-4 c =
     let t = c .before .before .before in
     let s = t .before .before .before .before .before in
     call-refused (s .args .bytes .now) (s .args .places .now) _
-    (call-posts _ _ (t .before .before .if1 .left) (t .before .if2 .left) (t .if3 .left) ∙ sym (c .before .before .read-posts .ensures .refusal)) (c .if4 .taken)
+    (call-lengths _ _ (t .before .before .if1 .left) 0 (lengths-fit _ _ (t .before .if2 .left) (t .if3 .left)) ∙ sym (c .before .before .read-posts .ensures .refusal)) (c .if4 .taken)
 
 allocate-into-requires : tie.Need-allocate-into-requires
 allocate-into-requires c κs =
@@ -58,7 +58,7 @@ returns-5 c =
     let i = c .before .before .before .before .before .if4 .left in
     let a = c .before .before .allocate-into .ensures in
     call-accepted (s .args .bytes .now) (s .args .places .now) _
-    (call-posts _ _ (t .before .before .before .if1 .left) (t .before .before .if2 .left) (t .before .if3 .left) ∙ sym (e .refusal)) i _ _
+    (call-lengths _ _ (t .before .before .before .if1 .left) 0 (lengths-fit _ _ (t .before .before .if2 .left) (t .before .if3 .left)) ∙ sym (e .refusal)) i _ _
     (a .0 ∙ ap aggregatePay (e .posts i)) (a .1 ∙ ap (λ (xs : List Post). parts xs ++ drop (length xs) (s .args .places .now)) (e .posts i))
 
 pub posts-call-spec : {M : Type 1} → statement M
