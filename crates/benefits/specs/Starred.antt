@@ -1,21 +1,12 @@
 -- "Figures to hold against it. Starred ones are theorems, together": a field for each, in minutes, months and pence.
-use Prim.Native.Nat.{ℕ, _*_}
+use Prim.Native.Nat.{_*_}
 use mathlib.Core.Path.{_≡_}
 use mathlib.Core.List.{[], _∷_}
 use lib.IntN.{pos, negsuc}
-use Rattle.calendar.specs.declared.Date.{Date}
-use Rattle.calendar.specs.Dates.{monthsEarly}
-use Rattle.posts.specs.declared.Post.{Post}
-use Rattle.posts.specs.Posts.{parts, aggregatePay}
+use Rattle.calendar.specs.Dates.{dateOf, monthsEarly}
+use Rattle.posts.specs.Posts.{postOf, parts, aggregatePay}
 use Rattle.benefits.specs.declared.FinalPay.{FinalPay}
 use Rattle.benefits.specs.Steps.{charge, pensionDebit, lumpDebit, abatement}
-
--- a post of h, w and p; a date of year, month and day
-abbrev pub post : ℕ → ℕ → ℕ → Post
-post h w p = record { contracted = record { 0 = h }; whole = record { 0 = w }; pay = record { 0 = p } }
-
-abbrev pub date : ℕ → ℕ → ℕ → Date
-date year month day = record { year = year; month = month; day = day }
 
 -- "Pays £30,000, £31,000, £32,000, £40,000, allowances 65, all controlled, 7,300 days, 20.20"
 abbrev pub charged : FinalPay
@@ -37,22 +28,22 @@ pub record Starred : Type 0 where
   -- "No posts: 0."
   pub no-posts : aggregatePay [] ≡ 0
   -- "20 h at £10,000 and 20 h at £12,000 of 37.5 h: £20,750."
-  pub two-posts : aggregatePay (post 1200 2250 1000000 ∷ post 1200 2250 1200000 ∷ []) ≡ 2075000
+  pub two-posts : aggregatePay (postOf 1200 2250 1000000 ∷ postOf 1200 2250 1200000 ∷ []) ≡ 2075000
   -- "25 h £26,000, 15 h £12,000 of 37.5: £36,000."
-  pub uneven-posts : aggregatePay (post 1500 2250 2600000 ∷ post 900 2250 1200000 ∷ []) ≡ 3600000
+  pub uneven-posts : aggregatePay (postOf 1500 2250 2600000 ∷ postOf 900 2250 1200000 ∷ []) ≡ 3600000
   -- "20 h £53,000 of 37.5, 19 h £47,500 of 40: £99,794.87."
-  pub differing-weeks : aggregatePay (post 1200 2250 5300000 ∷ post 1140 2400 4750000 ∷ []) ≡ 9979487
+  pub differing-weeks : aggregatePay (postOf 1200 2250 5300000 ∷ postOf 1140 2400 4750000 ∷ []) ≡ 9979487
   -- "Twice 20 h £10,000 of 37.5: £18,750, the second cut."
-  pub equal-rates : aggregatePay (post 1200 2250 1000000 ∷ post 1200 2250 1000000 ∷ []) ≡ 1875000
-  pub second-cut : parts (post 1200 2250 1000000 ∷ post 1200 2250 1000000 ∷ []) ≡ 1200 * 2400 ∷ 1050 * 2400 ∷ []
+  pub equal-rates : aggregatePay (postOf 1200 2250 1000000 ∷ postOf 1200 2250 1000000 ∷ []) ≡ 1875000
+  pub second-cut : parts (postOf 1200 2250 1000000 ∷ postOf 1200 2250 1000000 ∷ []) ≡ 1200 * 2400 ∷ 1050 * 2400 ∷ []
   -- "37.5 h £20,000 and 5 h £9,000, both of 37.5: £20,000."
-  pub whole-time : aggregatePay (post 2250 2250 2000000 ∷ post 300 2250 900000 ∷ []) ≡ 2000000
+  pub whole-time : aggregatePay (postOf 2250 2250 2000000 ∷ postOf 300 2250 900000 ∷ []) ≡ 2000000
   -- "Born 1 April 1970, out 1 November 2025, age 60: 53 months."
-  pub early-at-60 : monthsEarly (date 1970 4 1) (date 2025 11 1) 60 ≡ pos 53
+  pub early-at-60 : monthsEarly (dateOf 1970 4 1) (dateOf 2025 11 1) 60 ≡ pos 53
   -- "Born 1 November 1967, age 67: out 17 October 2030, 49; 1 November 2034, 0; 1 December 2034, −1."
-  pub early-at-67 : monthsEarly (date 1967 11 1) (date 2030 10 17) 67 ≡ pos 49
-  pub at-pension-age : monthsEarly (date 1967 11 1) (date 2034 11 1) 67 ≡ pos 0
-  pub one-month-late : monthsEarly (date 1967 11 1) (date 2034 12 1) 67 ≡ negsuc 0
+  pub early-at-67 : monthsEarly (dateOf 1967 11 1) (dateOf 2030 10 17) 67 ≡ pos 49
+  pub at-pension-age : monthsEarly (dateOf 1967 11 1) (dateOf 2034 11 1) 67 ≡ pos 0
+  pub one-month-late : monthsEarly (dateOf 1967 11 1) (dateOf 2034 12 1) 67 ≡ negsuc 0
   -- "charge £34,336."
   pub final-pay-charge : charge charged ≡ 3433600
   -- "Pot £10,000, 20.20: debit £495.05, lump £1,485.15."

@@ -9,7 +9,7 @@ use Rattle.measures.specs.declared.Answer.{Answer}
 use Rattle.benefits.specs.declared.FinalPay.{FinalPay}
 use Rattle.benefits.specs.declared.BestPay.{BestPay}
 
--- Years
+-- ---- Years
 
 -- "rounded(pension × (10,000 + r)/10,000)"; "r is that year's revaluation in ten-thousandths"
 unfoldable pub revalued : ℕ → ℕ → ℕ
@@ -23,9 +23,9 @@ accrued aggregate = rounded aggregate 54
 unfoldable pub afterYear : ℕ → ℕ → ℕ → ℕ
 afterYear pension r aggregate = revalued pension r + accrued aggregate
 
--- Final pay
+-- ---- Final pay
 
--- what belongs to year 3, 2 or 1: "year 1 being the last"
+-- of three things the one of year 3, 2 or 1: "year 1 being the last"
 abbrev pub ofYear : {A : Type 0} → ℕ → A → A → A → A
 ofYear year three two one = cond (eqb year 3) three (cond (eqb year 2) two one)
 
@@ -33,11 +33,11 @@ ofYear year three two one = cond (eqb year 3) three (cond (eqb year 2) two one)
 abbrev pub payIn : FinalPay → ℕ → ℕ
 payIn f year = ofYear year (f .pay3 .0) (f .pay2 .0) (f .pay1 .0)
 
--- "Final pay is the highest of years 3 to 1"
+-- Final pay, as document 01 defines it: "Final pay is the highest of years 3 to 1"
 unfoldable pub finalPay : FinalPay → ℕ
 finalPay f = max (f .pay3 .0) (max (f .pay2 .0) (f .pay1 .0))
 
--- "of equals, the later year"
+-- its year: "of equals, the later year"
 unfoldable pub finalYear : FinalPay → ℕ
 finalYear f = cond (eqb (f .pay1 .0) (finalPay f)) 1 (cond (eqb (f .pay2 .0) (finalPay f)) 2 3)
 
@@ -61,13 +61,13 @@ lumpTimes = 3
 unfoldable pub lumpSum : ℕ → ℕ
 lumpSum pension = lumpTimes * pension
 
--- Reduction
+-- ---- Reduction
 
 -- "pension and lump sum become rounded(amount × factor/1,000)"
 unfoldable pub reduced : ℕ → ℕ → ℕ
 reduced amount factor = rounded (amount * factor) 1000
 
--- Debit
+-- ---- Debit
 
 -- "Pension debit = rounded(pot × 100/factor in hundredths)"
 unfoldable pub pensionDebit : ℕ → ℕ → ℕ
@@ -77,7 +77,7 @@ pensionDebit pot factor = rounded (pot * 100) factor
 unfoldable pub lumpDebit : ℕ → ℕ
 lumpDebit debit = lumpTimes * debit
 
--- Charge
+-- ---- Charge
 
 -- whether the bit at a place is 1
 abbrev pub bit : ℕ → ℕ → Bool
@@ -91,23 +91,31 @@ controlled controls year = ofYear year (bit controls 0) (bit controls 1) (bit co
 unfoldable pub raised : ℕ → ℕ → ℕ
 raised pay allowance = rounded (pay * (1000 + allowance)) 1000
 
--- "Allowed year 3 = rounded(pay 4 × (1,000 + a)/1,000)." "A year whose control bit is 0 has its pay as allowed."
+-- "three allowances in thousandths [..] (year 3 first)"
+abbrev pub allowanceIn : FinalPay → ℕ → ℕ
+allowanceIn f year = ofYear year (f .allowance3) (f .allowance2) (f .allowance1)
+
+-- a year "applies its own a" to a base; "A year whose control bit is 0 has its pay as allowed."
+unfoldable pub allowedFrom : FinalPay → ℕ → ℕ → ℕ
+allowedFrom f year base = cond (controlled (f .controls) year) (raised base (allowanceIn f year)) (payIn f year)
+
+-- "Allowed year 3 = rounded(pay 4 × (1,000 + a)/1,000)."
 unfoldable pub allowed3 : FinalPay → ℕ
-allowed3 f = cond (controlled (f .controls) 3) (raised (f .pay4 .0) (f .allowance3)) (f .pay3 .0)
+allowed3 f = allowedFrom f 3 (f .pay4 .0)
 
 -- "Allowed year 2 applies its own a to the lower of pay 3 and allowed 3;"
 unfoldable pub allowed2 : FinalPay → ℕ
-allowed2 f = cond (controlled (f .controls) 2) (raised (min (f .pay3 .0) (allowed3 f)) (f .allowance2)) (f .pay2 .0)
+allowed2 f = allowedFrom f 2 (min (f .pay3 .0) (allowed3 f))
 
 -- "allowed year 1 likewise to year 2."
 unfoldable pub allowed1 : FinalPay → ℕ
-allowed1 f = cond (controlled (f .controls) 1) (raised (min (f .pay2 .0) (allowed2 f)) (f .allowance1)) (f .pay1 .0)
+allowed1 f = allowedFrom f 1 (min (f .pay2 .0) (allowed2 f))
 
--- "that year's allowed"
+-- the allowed pay of year 3, 2 or 1: "that year's allowed"
 unfoldable pub allowedIn : FinalPay → ℕ → ℕ
 allowedIn f year = ofYear year (allowed3 f) (allowed2 f) (allowed1 f)
 
--- "Excess = final pay less that year's allowed, not below 0." "Excess in year 2 or 3 is not indexed."
+-- Excess, as document 01 defines it: "Excess = final pay less that year's allowed, not below 0." "Excess in year 2 or 3 is not indexed."
 unfoldable pub excess : FinalPay → ℕ
 excess f = finalPay f - allowedIn f (finalYear f)
 
@@ -123,9 +131,9 @@ chargeFrom over days factor = rounded (excessPension over days * factor) 100 + l
 unfoldable pub charge : FinalPay → ℕ
 charge f = chargeFrom (excess f) (f .days) (f .factor)
 
--- Abatement
+-- ---- Abatement
 
--- "Enhancement = pension − earned pension."
+-- Enhancement, as document 01 defines it: "Enhancement = pension − earned pension."
 unfoldable pub enhancement : ℕ → ℕ → ℕ
 enhancement pension earned = pension - earned
 
@@ -134,7 +142,7 @@ unfoldable pub abatement : ℕ → ℕ → ℕ → ℕ → ℕ
 abatement pension earned previous new =
     min ((new + enhancement pension earned) - previous) (enhancement pension earned)
 
--- When each part declines
+-- ---- When each part declines
 
 -- "a pay above 1,000,000,000," turned round
 unfoldable pub paysWithin : FinalPay → Bool

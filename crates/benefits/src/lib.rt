@@ -3,7 +3,7 @@ use measures::Answer;
 use measures::Pence;
 ghost use mathlib.Core.Path.{_≡_};
 ghost use Prim.Native.Nat.{_-_, _^_, _≤_, _<_, min, max};
-ghost use Rattle.benefits.specs.Steps.{revalued, accrued, afterYear, bestPay, sectionPension, lumpSum, reduced, pensionDebit, lumpDebit, controlled, raised, allowed3, allowed2, allowed1, allowedIn, excess, chargeFrom, charge, abatement, paysWithin, termsWithin, finalPayRefusal, abatementRefusal, chargeAnswer, abatementAnswer};
+ghost use Rattle.benefits.specs.Steps.{revalued, accrued, afterYear, bestPay, sectionPension, lumpSum, reduced, pensionDebit, lumpDebit, payIn, controlled, raised, allowanceIn, allowedFrom, allowedIn, excess, chargeFrom, charge, abatement, paysWithin, termsWithin, finalPayRefusal, abatementRefusal, chargeAnswer, abatementAnswer};
 ghost use Rattle.benefits.specs.Bounds.{FinalPayBounds};
 
 // The days of service that earn a 1995 pension of the whole final pay.
@@ -175,59 +175,60 @@ fn raised(pay: Pence, allowance: u64) -> Pence
     Pence(measures::rounded(pay.0 * (1000 + allowance), 1000))
 }
 
-// The allowed pay of year 3.
-fn allowed3(f: FinalPay) -> Pence
-    requires { ⌜ FinalPayBounds f ⌝ }
-    ensures { λ r. ⌜ r .0 ≡ allowed3 f ⌝ }
+// The pay of year 3, 2 or 1.
+fn pay_in(f: FinalPay, year: u64) -> Pence
+    ensures { λ r. ⌜ r .0 ≡ payIn f year ⌝ }
 {
-    let pay4 = f.pay4;
-    let pay3 = f.pay3;
-    if controlled(f.controls, 3) {
-        return raised(pay4, f.allowance3);
+    if year == 3 {
+        return f.pay3;
     }
-    pay3
+    if year == 2 {
+        return f.pay2;
+    }
+    f.pay1
 }
 
-// The allowed pay of year 2.
-fn allowed2(f: FinalPay) -> Pence
-    requires { ⌜ FinalPayBounds f ⌝ }
-    ensures { λ r. ⌜ r .0 ≡ allowed2 f ⌝ }
+// The allowance of year 3, 2 or 1, in thousandths.
+fn allowance_in(f: FinalPay, year: u64) -> u64
+    ensures { λ r. ⌜ r ≡ allowanceIn f year ⌝ }
 {
-    let pay3 = f.pay3;
-    let pay2 = f.pay2;
-    let before = allowed3(f);
-    if controlled(f.controls, 2) {
-        return raised(lower(pay3, before), f.allowance2);
+    if year == 3 {
+        return f.allowance3;
     }
-    pay2
+    if year == 2 {
+        return f.allowance2;
+    }
+    f.allowance1
 }
 
-// The allowed pay of year 1.
-fn allowed1(f: FinalPay) -> Pence
-    requires { ⌜ FinalPayBounds f ⌝ }
-    ensures { λ r. ⌜ r .0 ≡ allowed1 f ⌝ }
+// The allowed pay of a year: a base raised by its allowance where it is controlled, else its pay.
+fn allowed_from(f: FinalPay, year: u64, base: Pence) -> Pence
+    requires { ⌜ FinalPayBounds f × (base .0 ≤ 1000000000) ⌝ }
+    ensures { λ r. ⌜ r .0 ≡ allowedFrom f year (base .0) ⌝ }
 {
-    let pay2 = f.pay2;
-    let pay1 = f.pay1;
-    let before = allowed2(f);
-    if controlled(f.controls, 1) {
-        return raised(lower(pay2, before), f.allowance1);
+    if controlled(f.controls, year) {
+        return raised(base, allowance_in(f, year));
     }
-    pay1
+    pay_in(f, year)
 }
 
-// The allowed pay of year 3, 2 or 1.
+// The allowed pay of year 3, 2 or 1. From year 2 on it builds on the lower of pay and allowed pay of the year before.
 fn allowed_in(f: FinalPay, year: u64) -> Pence
     requires { ⌜ FinalPayBounds f ⌝ }
     ensures { λ r. ⌜ r .0 ≡ allowedIn f year ⌝ }
 {
+    let pay4 = f.pay4;
+    let pay3 = f.pay3;
+    let pay2 = f.pay2;
+    let allowed3 = allowed_from(f, 3, pay4);
     if year == 3 {
-        return allowed3(f);
+        return allowed3;
     }
+    let allowed2 = allowed_from(f, 2, lower(pay3, allowed3));
     if year == 2 {
-        return allowed2(f);
+        return allowed2;
     }
-    allowed1(f)
+    allowed_from(f, 1, lower(pay2, allowed2))
 }
 
 // Final pay less the allowed pay of its year.

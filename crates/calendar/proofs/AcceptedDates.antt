@@ -10,7 +10,8 @@ use borrow.Author.Tests.{ne-eqb, not-true}
 use Rattle.measures.specs.Refusals.{within, unless}
 use Rattle.measures.proofs.Tests.{passed, parts}
 use Rattle.calendar.specs.declared.Date.{Date}
-use Rattle.calendar.specs.Dates.{monthLength, dateStands, isBefore, datesRefusal, monthsEarly, datesNumber, InRange, Accepted}
+use Rattle.calendar.specs.Dates.{monthLength, dateStands, isBefore, datesRefusal, monthsEarly, datesNumber}
+use Rattle.calendar.specs.Ranges.{InRange, Accepted}
 
 either : (t : Bool) (m n : ℕ) → m ≤ 31 → n ≤ 31 → cond t m n ≤ 31
 either true m n p q = p

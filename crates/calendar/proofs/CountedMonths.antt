@@ -7,7 +7,8 @@ use lib.Dec.{eqb, ltb}
 use lib.IntN.{ℤ, pos, negsuc, negℤ, _-ℤ_}
 use borrow.Author.Tests.{eqb-true, eqb-false, ltb-true, ltb-false, lt-ltb, le-ltb}
 use Rattle.calendar.specs.declared.Date.{Date}
-use Rattle.calendar.specs.Dates.{isBefore, completedMonths, monthsEarly, Accepted}
+use Rattle.calendar.specs.Dates.{isBefore, completedMonths, monthsEarly}
+use Rattle.calendar.specs.Ranges.{Accepted}
 
 -- a − b where b is no more than a
 pub less : (a b : ℕ) → b ≤ a → pos a -ℤ pos b ≡ pos (a - b)

@@ -9,7 +9,8 @@ use mir.Facts.{toZ-ofZ}
 use Rattle.measures.specs.declared.Months.{Months}
 use Rattle.calendar.specs.declared.MonthsEarly.{MonthsEarly}
 use Rattle.calendar.specs.declared.DatesAnswer.{DatesAnswer}
-use Rattle.calendar.specs.Dates.{AnswerBounded, monthsOf, monthsGiven}
+use Rattle.calendar.specs.Dates.{monthsOf, monthsGiven}
+use Rattle.calendar.specs.Ranges.{AnswerBounded}
 use Rattle.calendar.proofs.CountedMonths.{more}
 
 module _ (n : ℕ) (h : n ≤ 1751) where

@@ -1,7 +1,6 @@
 -- Document 01, "Months early", and what refusal 5 says of dates and pension age.
-use Prim.Native.Nat.{ℕ, _+_, _*_, _%_, _≤_}
-use mathlib.Core.Bool.{Bool, false, _&&_, _||_, not, cond}
-use mathlib.Core.Path.{_≡_}
+use Prim.Native.Nat.{ℕ, _+_, _*_, _%_}
+use mathlib.Core.Bool.{Bool, _&&_, _||_, not, cond}
 use lib.Dec.{ltb, eqb}
 use lib.IntN.{ℤ, pos, negℤ, _-ℤ_}
 use Rattle.measures.specs.Refusals.{within, unless}
@@ -9,13 +8,17 @@ use Rattle.calendar.specs.declared.Date.{Date}
 use Rattle.calendar.specs.declared.MonthsEarly.{MonthsEarly}
 use Rattle.calendar.specs.declared.DatesAnswer.{DatesAnswer}
 
--- "Age is completed months: 12 × years + months between the dates, one fewer if the retirement day number is below the birth day number."
+-- a date of year, month and day
+abbrev pub dateOf : ℕ → ℕ → ℕ → Date
+dateOf year month day = record { year = year; month = month; day = day }
+
+-- Age, as document 01 defines it: "Age is completed months: 12 × years + months between the dates, one fewer if the retirement day number is below the birth day number."
 unfoldable pub completedMonths : Date → Date → ℤ
 completedMonths birth retirement =
     pos (12 * retirement .year + retirement .month) -ℤ pos (12 * birth .year + birth .month)
     -ℤ pos (cond (ltb (retirement .day) (birth .day)) 1 0)
 
--- "Months early = 12 × pension age − age, which may be nought or negative"
+-- Months early, as document 01 defines it: "Months early = 12 × pension age − age, which may be nought or negative"
 unfoldable pub monthsEarly : Date → Date → ℕ → ℤ
 monthsEarly birth retirement pensionAge = pos (12 * pensionAge) -ℤ completedMonths birth retirement
 
@@ -46,17 +49,17 @@ unfoldable pub datesRefusal : Date → Date → ℕ → ℕ
 datesRefusal birth retirement pensionAge =
     unless (dateStands birth && dateStands retirement && not (isBefore retirement birth) && within 55 75 pensionAge) 5
 
--- "nought or negative": months early by the side of pension age
+-- the months of an enum answer: "which may be nought or negative"
 unfoldable pub monthsOf : MonthsEarly → ℤ
 monthsOf (MonthsEarly.Early months) = pos (months .0)
 monthsOf (MonthsEarly.Late months) = negℤ (pos (months .0))
 
--- the refusal that the dates call gives, 0 for none
+-- the refusal of an answer of the dates call, 0 for none
 unfoldable pub refusalOf : DatesAnswer → ℕ
 refusalOf (DatesAnswer.Months months) = 0
 refusalOf (DatesAnswer.Refused number) = number
 
--- "Each of these calls .. gives 0 for its number when refused."
+-- its number: "Each of these calls .. gives 0 for its number when refused."
 unfoldable pub monthsGiven : DatesAnswer → ℤ
 monthsGiven (DatesAnswer.Months months) = monthsOf months
 monthsGiven (DatesAnswer.Refused number) = pos 0
@@ -65,28 +68,3 @@ monthsGiven (DatesAnswer.Refused number) = pos 0
 unfoldable pub datesNumber : Date → Date → ℕ → ℤ
 datesNumber birth retirement pensionAge =
     cond (eqb (datesRefusal birth retirement pensionAge) 0) (monthsEarly birth retirement pensionAge) (pos 0)
-
--- early is above nought and at most the months of pension age 75; late is at most 2,411 months, from January 1900 to December 2100, less those of pension age 55
-abbrev pub Bounded : MonthsEarly → Type 0
-Bounded (MonthsEarly.Early months) = (1 ≤ months .0) × (months .0 ≤ 900)
-Bounded (MonthsEarly.Late months) = months .0 ≤ 1751
-
--- an answer of the dates call: bounded months, or refusal 5
-abbrev pub AnswerBounded : DatesAnswer → Type 0
-AnswerBounded (DatesAnswer.Months months) = Bounded months
-AnswerBounded (DatesAnswer.Refused number) = number ≡ 5
-
--- what the numbers of a date that stands keep to
-pub record InRange (d : Date) : Type 0 where
-  pub year-from : 1900 ≤ d .year
-  pub year-to : d .year ≤ 2100
-  pub month-from : 1 ≤ d .month
-  pub month-to : d .month ≤ 12
-  pub day-from : 1 ≤ d .day
-  pub day-to : d .day ≤ 31
-
--- what two dates that are not refused keep to, whatever the pension age
-pub record Accepted (birth retirement : Date) : Type 0 where
-  pub born : InRange birth
-  pub retired : InRange retirement
-  pub order : isBefore retirement birth ≡ false

@@ -3,7 +3,8 @@ use measures::Months;
 ghost use mathlib.Core.Path.{_≡_};
 ghost use Prim.Native.Nat.{_≤_};
 ghost use lib.IntN.{pos};
-ghost use Rattle.calendar.specs.Dates.{isLeap, monthLength, dateStands, isBefore, datesRefusal, completedMonths, monthsEarly, monthsOf, refusalOf, monthsGiven, datesNumber, Bounded, AnswerBounded, Accepted};
+ghost use Rattle.calendar.specs.Dates.{isLeap, monthLength, dateStands, isBefore, datesRefusal, completedMonths, monthsEarly, monthsOf, refusalOf, monthsGiven, datesNumber};
+ghost use Rattle.calendar.specs.Ranges.{Bounded, AnswerBounded, Accepted};
 
 // A day of the calendar.
 pub struct Date {

@@ -1,15 +1,12 @@
 -- The numbers that C passes, as the records of the paper, and an outcome in the numbers that C gets.
 use Prim.Native.Nat.{ℕ}
 use mathlib.Core.Path.{_≡_}
-use Rattle.calendar.specs.declared.Date.{Date}
 use Rattle.benefits.specs.declared.FinalPay.{FinalPay}
 use Rattle.cases.specs.declared.Outcome.{Outcome}
 use Rattle.cases.specs.Working.{numberOf, lineOf, amountsGiven}
 use Rattle.canyonsieve.specs.declared.CaseFigures.{CaseFigures}
 
-abbrev pub dateOf : ℕ → ℕ → ℕ → Date
-dateOf year month day = record { year = year; month = month; day = day }
-
+-- the ten numbers of a final pay frame
 abbrev pub finalPayOf : ℕ → ℕ → ℕ → ℕ → ℕ → ℕ → ℕ → ℕ → ℕ → ℕ → FinalPay
 finalPayOf pay4 pay3 pay2 pay1 allowance3 allowance2 allowance1 controls days factor =
     record {

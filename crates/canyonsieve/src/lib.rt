@@ -14,7 +14,7 @@ use texts::work_text;
 ghost use mathlib.Core.Path.{_≡_};
 ghost use lib.ListN.{length};
 ghost use Rattle.measures.specs.Answers.{refusalOf, amountOf, numberUnless};
-ghost use Rattle.calendar.specs.Dates.{datesRefusal, datesNumber};
+ghost use Rattle.calendar.specs.Dates.{dateOf, datesRefusal, datesNumber};
 ghost use Rattle.posts.specs.Posts.{aggregatePay};
 ghost use Rattle.posts.specs.Call.{postsIn, callRefusal, placesAfter};
 ghost use Rattle.benefits.specs.Steps.{finalPayRefusal, charge, abatementRefusal, abatement};
@@ -22,7 +22,7 @@ ghost use Rattle.cases.specs.Rules.{kept};
 ghost use Rattle.cases.specs.Working.{numberOf, lineOf, amountsGiven};
 ghost use Rattle.cases.specs.Rivals.{Largest};
 ghost use Rattle.texts.specs.Text.{framesOf, workText};
-ghost use Rattle.canyonsieve.specs.Results.{dateOf, finalPayOf, Flat};
+ghost use Rattle.canyonsieve.specs.Results.{finalPayOf, Flat};
 
 // A refusal, 0 for none, and the number beside it, 0 when refused.
 #[repr(C)]

@@ -7,7 +7,8 @@ use lib.Dec.{leb, eqb}
 use borrow.Author.Tests.{eqb-true, eq-eqb}
 use Rattle.measures.specs.Refusals.{within}
 use Rattle.measures.proofs.Tests.{passed, parts, neither}
-use Rattle.calendar.specs.Dates.{datesRefusal, Accepted}
+use Rattle.calendar.specs.Dates.{datesRefusal}
+use Rattle.calendar.specs.Ranges.{Accepted}
 use Rattle.calendar.proofs.AcceptedDates.{accepted, accepted-age}
 use Rattle.frames.specs.declared.Member.{Member}
 use Rattle.frames.specs.declared.Year.{Year}

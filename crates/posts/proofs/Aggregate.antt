@@ -11,7 +11,7 @@ use Rattle.measures.specs.Rounding.{rounded}
 use Rattle.measures.proofs.Rounding.{rounded-mono, rounded-add, rounded-scale, rounded-whole, rounded-zero, rounded-bound}
 use Rattle.posts.specs.declared.Post.{Post}
 use Rattle.posts.specs.Division.{Claim, Rated, numerator, denominator, Within, nothing, more, Allowed, division}
-use Rattle.posts.specs.Sums.{paid}
+use Rattle.posts.specs.Paid.{paid}
 use Rattle.posts.specs.Posts.{h, p, contractedMinutes, weightedParts, claims, aggregate, aggregatePay, wholeTime, anyWholeTime, wholeTimeParts, parts, Rival, RivalIf}
 use Rattle.posts.proofs.Filling.{Filled, done, over, under, level, seen}
 use Rattle.posts.proofs.Optimum.{optimal-division, division-allowed, shares-within}

@@ -16,7 +16,8 @@ use Rattle.posts.specs.declared.YearPosts.{YearPosts}
 use Rattle.posts.specs.Division.{Claim, Within, nothing, more, higher, noLower, partsOf, claimAt, division, shares}
 use Rattle.posts.specs.Posts.{h, p, contractedMinutes, weightedParts, claim, claims, wholeTime, anyWholeTime, wholeTimeParts, parts, aggregatePay}
 use Rattle.posts.specs.Rates.{rankedBefore}
-use Rattle.posts.specs.Sums.{minutesAhead, paid}
+use Rattle.posts.specs.Sums.{minutesAhead}
+use Rattle.posts.specs.Paid.{paid}
 use Rattle.posts.specs.Year.{noPost, postsOf, Held}
 use Rattle.posts.proofs.Aggregate.{aggregate-closed, parts-within}
 use Rattle.posts.proofs.Ranking.{division-at}

@@ -16,10 +16,11 @@ abbrev pub Rated : List Claim → Type 0
 Rated [] = Unit {0}
 Rated (x ∷ xs) = (0 < x .d) × Rated xs
 
--- y has a higher rate than x, or at least the same, by cross products
+-- y has a higher rate than x, by cross products
 abbrev pub higher : Claim → Claim → Bool
 higher x y = ltb (x .n * y .d) (y .n * x .d)
 
+-- y has at least the rate of x
 abbrev pub noLower : Claim → Claim → Bool
 noLower x y = leb (x .n * y .d) (y .n * x .d)
 
@@ -37,6 +38,7 @@ ahead earlier x later = partsOf (noLower x) earlier + partsOf (higher x) later
 abbrev pub share : ℕ → List Claim → Claim → List Claim → ℕ
 share limit earlier x later = min (x .most) (limit - ahead earlier x later)
 
+-- the shares of the claims of a list, after those earlier than it
 abbrev pub shares : ℕ → List Claim → List Claim → List ℕ
 shares limit earlier [] = []
 shares limit earlier (x ∷ later) = share limit earlier x later ∷ shares limit (earlier ++ x ∷ []) later

@@ -5,4 +5,5 @@ pub mod Lent
 pub mod Call
 pub mod Rates
 pub mod Sums
+pub mod Paid
 pub mod Year

@@ -27,12 +27,12 @@ abbrev pub contractedMinutes : List Post → ℕ
 contractedMinutes [] = 0
 contractedMinutes (x ∷ xs) = h x + contractedMinutes xs
 
--- "and K the sum of w × h, so the weighted week is K/H minutes."
+-- "and K the sum of w × h, so the weighted week is K/H minutes": document 01's weighted week, in parts
 abbrev pub weightedParts : List Post → ℕ
 weightedParts [] = 0
 weightedParts (x ∷ xs) = w x * h x + weightedParts xs
 
--- "Time is counted in parts, H parts to a minute. Post i may have up to h × H parts"; its rate is p/h
+-- Parts, as document 01 defines them: "Time is counted in parts, H parts to a minute. Post i may have up to h × H parts"; its rate is p/h
 abbrev pub claim : ℕ → Post → Claim
 claim H x = record { most = h x * H; n = p x; d = h x }
 
@@ -60,7 +60,7 @@ parts xs =
     (wholeTimeParts (contractedMinutes xs) xs)
     (division (weightedParts xs) (claims (contractedMinutes xs) xs))
 
--- "The aggregate is the sum of parts × p/(h × H), rounded once", for any division of the parts. No posts: 0.
+-- The aggregate, as document 01 defines it: "the sum of parts × p/(h × H), rounded once", for any division of the parts; "No posts: aggregate 0."
 unfoldable pub aggregate : List Post → List ℕ → ℕ
 aggregate xs qs =
     rounded (numerator (claims (contractedMinutes xs) xs) qs) (denominator (claims (contractedMinutes xs) xs) * contractedMinutes xs)
@@ -69,7 +69,7 @@ aggregate xs qs =
 unfoldable pub aggregatePay : List Post → ℕ
 aggregatePay xs = aggregate xs (parts xs)
 
--- "A rival picks, for each post of each year, any whole number of parts from 0 to h × H, together at most that year's K;
+-- A rival's parts of one year: "A rival picks, for each post of each year, any whole number of parts from 0 to h × H, together at most that year's K;
 -- in a year with a post of h = w it has instead the parts that the posts step gives, even where they pass K."
 abbrev pub RivalIf : Bool → List Post → List ℕ → Type 0
 RivalIf true xs qs = qs ≡ parts xs

@@ -1,0 +1,16 @@
+-- `benefits::allowance_in` meets its contract: each year its own.
+use Rattle.measures.proofs.Tests.{tests}
+use Rattle.benefits.proofs.allowance_in.Statement.{statement}
+use Rattle.benefits.proofs.allowance_in.Tie as tie
+
+returns : tie.Need-returns
+returns c = search tests
+
+returns-2 : tie.Need-returns-2
+returns-2 c = search tests
+
+returns-3 : tie.Need-returns-3
+returns-3 c = search tests
+
+pub allowance-in-spec : {M : Type 1} → statement M
+allowance-in-spec = tie.close (tie.spec returns returns-2 returns-3)
