@@ -24,6 +24,7 @@ charged =
       factor = 2020;
     }
 
+-- the figures together
 pub record Starred : Type 0 where
   -- "No posts: 0."
   pub no-posts : aggregatePay [] ≡ 0

@@ -26,6 +26,7 @@ pub data Picked : List ℕ → ℕ → Type 0 where
   here : {pay : ℕ} {pays : List ℕ} → Picked (pay ∷ pays) pay
   later : {pay next other : ℕ} {pays : List ℕ} → Picked (next ∷ pays) pay → Picked (other ∷ next ∷ pays) pay
 
+-- a working that the paper lets a rival pick
 pub record Allowed (k : Frames) (choice : Choice) : Type 0 where
   pub parts : RivalParts (k .years) (choice .parts)
   pub pay : Picked (candidates (k .finalPay)) (choice .pay)
@@ -34,13 +35,15 @@ pub record Allowed (k : Frames) (choice : Choice) : Type 0 where
 abbrev pub ownChoice : Frames → Choice
 ownChoice k = record { parts = ownParts (k .years); pay = ownPay (k .finalPay) }
 
--- "Then it goes through the same steps with its own parts and final pay, [..] the factors and debits the same; a net below zero stays so."
+-- Its net 2015 pension: "Then it goes through the same steps with its own parts and final pay, [..] the factors and debits the same; a net below zero stays so."
 unfoldable pub net2015 : Frames → Choice → ℤ
 net2015 k choice = pos (gross2015 k (choice .parts)) -ℤ pos (debit2015 k)
 
+-- its net 1995 pension
 unfoldable pub net1995 : Frames → Choice → ℤ
 net1995 k choice = pos (gross1995 k (choice .pay)) -ℤ pos (debit1995 k)
 
+-- its net lump sum
 unfoldable pub netLumpSum : Frames → Choice → ℤ
 netLumpSum k choice = pos (grossLumpSum k (choice .pay)) -ℤ pos (lumpDebit (debit1995 k))
 
@@ -57,6 +60,7 @@ pub record AtMost (k : Frames) (a : Amounts) (choice : Choice) : Type 0 where
   pub pensions : (net2015 k choice +ℤ net1995 k choice) ≤ℤ (pos (a .«net_2015» .0) +ℤ pos (a .«net_1995» .0))
   pub lumpSum : netLumpSum k choice ≤ℤ pos (a .«net_lump_sum» .0)
 
+-- the amounts given are those of the steps, and no rival has more
 pub record LargestOf (k : Frames) (a : Amounts) : Type 0 where
   pub given : Given k a
   pub rivals : (choice : Choice) → Allowed k choice → AtMost k a choice

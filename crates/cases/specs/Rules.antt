@@ -42,15 +42,17 @@ pub data Kept : Type 0 where
 
 -- ---- lists and options
 
+-- whether there is one
 abbrev pub given : {A : Type 0} → Option A → Bool
 given none = false
 given (some x) = true
 
+-- whether there are any
 abbrev pub any : {A : Type 0} → List A → Bool
 any [] = false
 any (x ∷ xs) = true
 
--- "the previous 05", "the previous 06", the year before
+-- the last of a list: "the previous 05", "the previous 06", the year before
 unfoldable pub lastOf : {A : Type 0} → List A → Option A
 lastOf [] = none
 lastOf (x ∷ []) = some x
@@ -86,6 +88,7 @@ abbrev pub postsIn : Option WorkedYear → List Post
 postsIn none = []
 postsIn (some y) = y .posts
 
+-- of the last year
 unfoldable pub openPosts : List WorkedYear → List Post
 openPosts years = postsIn (lastOf years)
 
@@ -99,8 +102,9 @@ unfoldable pub afterDebit : Option Debit → Debit → Bool
 afterDebit none d = true
 afterDebit (some e) d = ltb (e .scheme) (d .scheme)
 
--- ---- "A frame is tried for 3, 4, fields": the refusal of a frame after the frames kept, 0 for none
+-- ---- the refusal of a frame
 
+-- "A frame is tried for 3, 4, fields": 4, then the fields, after the frames kept; 0 for none
 unfoldable pub refusalOf : Kept → Frame → ℕ
 refusalOf nothing (Frame.Member m) = memberRefusal m
 refusalOf nothing (Frame.Year y) = 4
@@ -125,6 +129,7 @@ addPost [] x = []
 addPost (y ∷ []) x = record { year = y .year; posts = y .posts ++ x ∷ [] } ∷ []
 addPost (y ∷ z ∷ ys) x = y ∷ addPost (z ∷ ys) x
 
+-- the frames kept with one more
 unfoldable pub keep : Kept → Frame → Kept
 keep nothing (Frame.Member m) = begun (record { member = m; years = []; finalPay = none; factors = []; debits = [] })
 keep nothing (Frame.Year y) = nothing
@@ -144,24 +149,28 @@ keep (begun k) (Frame.Factor f) =
 keep (begun k) (Frame.Debit d) =
     begun (record { member = k .member; years = k .years; finalPay = k .finalPay; factors = k .factors; debits = k .debits ++ d ∷ [] })
 
--- ---- frames as they are offered: bytes that are no frame are refused, by 3, and nothing is kept of them
+-- ---- frames as they are offered
 
+-- "A frame is tried for 3, 4, fields": bytes that are no frame have their refusal already
 unfoldable pub refusalOfDecoded : Kept → Decoded → ℕ
 refusalOfDecoded k (Decoded.Frame f) = refusalOf k f
 refusalOfDecoded k (Decoded.Refused number) = number
 
+-- nothing is kept of bytes that are no frame
 unfoldable pub keepDecoded : Kept → Decoded → Kept
 keepDecoded k (Decoded.Frame f) = keep k f
 keepDecoded k (Decoded.Refused number) = k
 
+-- raw frames decoded, each by itself
 abbrev pub decodedAll : List (List ℕ) → List Decoded
 decodedAll [] = []
 decodedAll (bytes ∷ raws) = decoded bytes ∷ decodedAll raws
 
--- "those of the list, in order, for which the rules name no refusal, each tried after the frames so kept before it"
+-- The frames meant, as document 01 defines them, by kind: "those of the list, in order, for which the rules name no refusal, each tried after
+-- the frames so kept before it"
 unfoldable pub kept : List Decoded → Kept
 kept ds = after refusalOfDecoded keepDecoded nothing ds
 
--- the same as a list of frames
+-- the same frames as a list
 unfoldable pub framesMeant : List Decoded → List Decoded
 framesMeant ds = meant refusalOfDecoded keepDecoded nothing ds

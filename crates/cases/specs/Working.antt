@@ -24,16 +24,19 @@ abbrev pub ifPositive : ℤ → ℕ
 ifPositive (pos months) = months
 ifPositive (negsuc months) = 0
 
+-- months early of a member at a pension age, 0 where retirement is not early
 unfoldable pub early : Member → ℕ → ℕ
 early m pensionAge = ifPositive (monthsEarly (m .birth) (m .retirement) pensionAge)
 
--- "Pension age is the member's for the 2015 Scheme, 60 for the 1995 Section"
+-- "60 for the 1995 Section (public scheme rule)"
 abbrev pub sectionPensionAge : ℕ
 sectionPensionAge = 60
 
+-- "Pension age is the member's for the 2015 Scheme"
 abbrev pub early2015 : Member → ℕ
 early2015 m = early m (m .age)
 
+-- "60 for the 1995 Section"
 abbrev pub early1995 : Member → ℕ
 early1995 m = early m sectionPensionAge
 
@@ -73,22 +76,26 @@ pension1995 (some f) pay = sectionPension pay (f .days)
 
 -- ---- Reduction
 
--- "the factors for exactly that scheme and month", of which 10 lets no second be kept
+-- "for exactly that scheme and month"
 abbrev pub isFor : ℕ → ℕ → Factor → Bool
 isFor scheme months f = eqb (f .scheme) scheme && eqb (f .months .0) months
 
+-- the first of two that is there
 abbrev pub orElse : {A : Type 0} → Option A → Option A → Option A
 orElse none other = other
 orElse (some x) other = some x
 
+-- "the factors for exactly that scheme and month", of which 10 lets no second be kept
 unfoldable pub factorFor : ℕ → ℕ → List Factor → Option Factor
 factorFor scheme months [] = none
 factorFor scheme months (f ∷ fs) = orElse (factorFor scheme months fs) (cond (isFor scheme months f) (some f) none)
 
+-- "pension factor 2, lump factor 2, both in thousandths": the pension's
 abbrev pub pensionFactor : Option Factor → ℕ
 pensionFactor none = 0
 pensionFactor (some f) = f .pension
 
+-- the lump sum's
 abbrev pub lumpFactor : Option Factor → ℕ
 lumpFactor none = 0
 lumpFactor (some f) = f .lump
@@ -97,20 +104,24 @@ lumpFactor (some f) = f .lump
 unfoldable pub reducedIf : ℕ → ℕ → ℕ → ℕ
 reducedIf months factor amount = cond (eqb months 0) amount (reduced amount factor)
 
+-- the factors for the 2015 Scheme at the member's months early
 abbrev pub factor2015 : Frames → Option Factor
 factor2015 k = factorFor 0 (early2015 (k .member)) (k .factors)
 
+-- for the 1995 Section
 abbrev pub factor1995 : Frames → Option Factor
 factor1995 k = factorFor 1 (early1995 (k .member)) (k .factors)
 
--- the amounts before the debits, of any parts and any final pay
+-- the 2015 pension before its debit, of any parts
 unfoldable pub gross2015 : Frames → List (List ℕ) → ℕ
 gross2015 k qs = reducedIf (early2015 (k .member)) (pensionFactor (factor2015 k)) (pensionOf (k .years) qs)
 
+-- the 1995 pension before its debit, of any final pay; "without a section [..] the 1995 nets are 0"
 unfoldable pub gross1995 : Frames → ℕ → ℕ
 gross1995 k pay =
     cond (hasSection k) (reducedIf (early1995 (k .member)) (pensionFactor (factor1995 k)) (pension1995 (k .finalPay) pay)) 0
 
+-- the lump sum before its debit
 unfoldable pub grossLumpSum : Frames → ℕ → ℕ
 grossLumpSum k pay =
     cond (hasSection k) (reducedIf (early1995 (k .member)) (lumpFactor (factor1995 k)) (lumpSum (pension1995 (k .finalPay) pay))) 0
@@ -127,20 +138,22 @@ unfoldable pub debitOf : Option Debit → ℕ
 debitOf none = 0
 debitOf (some d) = pensionDebit (d .pot .0) (d .factor)
 
+-- the debit of the 2015 pension
 unfoldable pub debit2015 : Frames → ℕ
 debit2015 k = debitOf (debitFor 0 (k .debits))
 
--- without a section "the 1995 nets are 0"
+-- the debit of the 1995 pension; without a section "the 1995 nets are 0"
 unfoldable pub debit1995 : Frames → ℕ
 debit1995 k = cond (hasSection k) (debitOf (debitFor 1 (k .debits))) 0
 
 -- ---- Charge
 
+-- the employer's charge, 0 without an 04
 unfoldable pub chargeOf : Option FinalPay → ℕ
 chargeOf none = 0
 chargeOf (some f) = charge f
 
--- ---- closing: "for 4 (no 01), 12, 13, 14"
+-- ---- Closing
 
 -- "12, section 1 without 04"
 unfoldable pub payThere : Frames → Bool
@@ -163,12 +176,14 @@ debitsFit k =
     && leb (debit1995 k) (gross1995 k (ownPay (k .finalPay)))
     && leb (lumpDebit (debit1995 k)) (grossLumpSum k (ownPay (k .finalPay)))
 
+-- "closing for 4 (no 01), 12, 13, 14": the refusal, 0 for none
 unfoldable pub closingOf : Kept → ℕ
 closingOf nothing = 4
 closingOf (begun k) = first (unless (payThere k) 12) (first (unless (factorsThere k) 13) (unless (debitsFit k) 14))
 
--- ---- the amounts given: "Net = reduced less debit."
+-- ---- The amounts given
 
+-- "Net = reduced less debit."
 unfoldable pub amountsOf : Frames → Amounts
 amountsOf k =
     record {
@@ -182,20 +197,24 @@ amountsOf k =
 unfoldable pub workedUnless : ℕ → Amounts → Outcome
 workedUnless refusal amounts = cond (eqb refusal 0) (Outcome.Worked amounts) (Outcome.Refused (record { number = refusal; line = 0 }))
 
+-- what the frames kept come to
 unfoldable pub answerOf : Kept → Outcome
 answerOf nothing = Outcome.Refused (record { number = 4; line = 0 })
 answerOf (begun k) = workedUnless (closingOf (begun k)) (amountsOf k)
 
--- ---- an outcome in the numbers of the paper: "All amounts 0."
+-- ---- An outcome in the numbers of the paper
 
+-- the refusal, 0 for none
 unfoldable pub numberOf : Outcome → ℕ
 numberOf (Outcome.Worked amounts) = 0
 numberOf (Outcome.Refused refusal) = refusal .number
 
+-- its line, "0 for no line"
 unfoldable pub lineOf : Outcome → ℕ
 lineOf (Outcome.Worked amounts) = 0
 lineOf (Outcome.Refused refusal) = refusal .line
 
+-- the amounts; refused, "All amounts 0."
 unfoldable pub amountsGiven : Outcome → Amounts
 amountsGiven (Outcome.Worked amounts) = amounts
 amountsGiven (Outcome.Refused refusal) =

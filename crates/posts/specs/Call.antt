@@ -20,6 +20,7 @@ unfoldable pub postsFrom : List ℕ → ℕ → ℕ → List Post
 postsFrom bytes number zero = []
 postsFrom bytes number (suc n) = postAt bytes (8 * number) ∷ postsFrom bytes (suc number) n
 
+-- all the posts in the bytes
 unfoldable pub postsIn : List ℕ → List Post
 postsIn bytes = postsFrom bytes 0 (length bytes / 8)
 

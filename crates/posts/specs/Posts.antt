@@ -8,13 +8,15 @@ use Rattle.measures.specs.Rounding.{rounded}
 use Rattle.posts.specs.Division.{Claim, division, Allowed, numerator, denominator}
 use Rattle.posts.specs.declared.Post.{Post}
 
--- "Post i has contracted minutes h, whole-time minutes w, yearly pay p in pence."
+-- "Post i has contracted minutes h,
 abbrev pub h : Post → ℕ
 h x = x .contracted .0
 
+-- whole-time minutes w,
 abbrev pub w : Post → ℕ
 w x = x .whole .0
 
+-- yearly pay p in pence."
 abbrev pub p : Post → ℕ
 p x = x .pay .0
 
@@ -36,14 +38,16 @@ weightedParts (x ∷ xs) = w x * h x + weightedParts xs
 abbrev pub claim : ℕ → Post → Claim
 claim H x = record { most = h x * H; n = p x; d = h x }
 
+-- the claims of all posts
 abbrev pub claims : ℕ → List Post → List Claim
 claims H [] = []
 claims H (x ∷ xs) = claim H x ∷ claims H xs
 
--- "If one post has h = w"
+-- a whole-time post: "h = w"
 abbrev pub wholeTime : Post → Bool
 wholeTime x = eqb (h x) (w x)
 
+-- "If one post has h = w"
 abbrev pub anyWholeTime : List Post → Bool
 anyWholeTime [] = false
 anyWholeTime (x ∷ xs) = cond (wholeTime x) true (anyWholeTime xs)
@@ -75,5 +79,6 @@ abbrev pub RivalIf : Bool → List Post → List ℕ → Type 0
 RivalIf true xs qs = qs ≡ parts xs
 RivalIf false xs qs = Allowed (weightedParts xs) (claims (contractedMinutes xs) xs) qs
 
+-- the same by whether a post has h = w
 abbrev pub Rival : List Post → List ℕ → Type 0
 Rival xs qs = RivalIf (anyWholeTime xs) xs qs

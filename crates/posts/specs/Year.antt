@@ -19,6 +19,7 @@ noPost = postOf 0 0 0
 abbrev pub postsOf : YearPosts → List Post
 postsOf y = take (y .count) (y .list)
 
+-- 7 refuses none of them
 abbrev pub AllStand : List Post → Type 0
 AllStand [] = Unit {0}
 AllStand (x ∷ xs) = (postStands x ≡ true) × AllStand xs

@@ -30,6 +30,7 @@ before false x [] = unended (x ∷ []) ∷ []
 before false x (ended cs ∷ ls) = ended (x ∷ cs) ∷ ls
 before false x (unended cs ∷ ls) = unended (x ∷ cs) ∷ ls
 
+-- the lines of a text
 unfoldable pub linesOf : List ℕ → List Line
 linesOf [] = []
 linesOf (x ∷ more) = before (eqb x 10) x (linesOf more)
@@ -66,10 +67,12 @@ unfoldable pub decodedLine : Option (List ℕ) → Decoded
 decodedLine none = Decoded.Refused 2
 decodedLine (some bytes) = decoded bytes
 
+-- each line in its turn
 abbrev pub framesOfLines : List Line → List Decoded
 framesOfLines [] = []
 framesOfLines (l ∷ ls) = decodedLine (lineBytes l) ∷ framesOfLines ls
 
+-- the frames of a text, with 2 or 3 for a line that is none
 unfoldable pub framesOf : List ℕ → List Decoded
 framesOf text = framesOfLines (linesOf text)
 
@@ -87,8 +90,9 @@ unfoldable pub workText : List ℕ → Outcome
 workText text =
     cond (ltb 32768 (length text)) (Outcome.Refused (record { number = 1; line = 0 })) (readFrom nothing 1 (framesOf text))
 
--- ---- what the working of a text promises: the outcome, and that no rival working of its frames has more
+-- ---- what the working of a text promises
 
+-- the outcome, and where it is worked that no rival working of its frames has more
 pub record TextWorked (text : List ℕ) (o : Outcome) : Type 0 where
   pub is : o ≡ workText text
   pub largest : (a : Amounts) → o ≡ Outcome.Worked a → Largest (kept (framesOf text)) a
