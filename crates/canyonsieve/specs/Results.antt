@@ -3,8 +3,8 @@ use Prim.Native.Nat.{ℕ}
 use mathlib.Core.Path.{_≡_}
 use Rattle.calendar.specs.declared.Date.{Date}
 use Rattle.benefits.specs.declared.FinalPay.{FinalPay}
-use Rattle.cases.specs.declared.Outcome.{Outcome}
-use Rattle.cases.specs.Working.{numberOf, lineOf, amountsGiven}
+use Rattle.rules.specs.declared.Outcome.{Outcome}
+use Rattle.rules.specs.Working.{numberOf, lineOf, amountsGiven}
 use Rattle.canyonsieve.specs.declared.CaseFigures.{CaseFigures}
 
 abbrev pub dateOf : ℕ → ℕ → ℕ → Date

@@ -9,11 +9,11 @@ use Rattle.measures.specs.Refusals.{unless, first}
 use Rattle.benefits.specs.declared.FinalPay.{FinalPay}
 use Rattle.benefits.specs.Steps.{finalPay, finalYear, sectionPension, lumpDebit, controlled, raised, allowed3, allowed2, allowed1, allowedIn, excess, excessPension, chargeFrom, charge}
 use Rattle.frames.specs.declared.Factor.{Factor}
-use Rattle.cases.specs.declared.Amounts.{Amounts}
-use Rattle.cases.specs.declared.Outcome.{Outcome}
+use Rattle.rules.specs.declared.Amounts.{Amounts}
+use Rattle.rules.specs.declared.Outcome.{Outcome}
+use Rattle.rules.specs.Rules.{Frames, Kept, nothing, begun, given, hasSection}
+use Rattle.rules.specs.Working.{ownParts, ownPay, pension1995, pensionFactor, lumpFactor, gross2015, gross1995, grossLumpSum, debit2015, debit1995, chargeOf, payThere, factorsThere, debitsFit, closingOf, amountsOf, workedUnless, answerOf}
 use Rattle.cases.specs.declared.Case.{Case}
-use Rattle.cases.specs.Rules.{Frames, Kept, nothing, begun, given, hasSection}
-use Rattle.cases.specs.Working.{ownParts, ownPay, pension1995, pensionFactor, lumpFactor, gross2015, gross1995, grossLumpSum, debit2015, debit1995, chargeOf, payThere, factorsThere, debitsFit, closingOf, amountsOf, workedUnless, answerOf}
 use Rattle.cases.specs.State.{start, sectionOf, wantedThere, openRefusal, pension1995Of, grossOf, debitsOf, netOf, outcomeOf}
 use Rattle.cases.proofs.Stages.{stage-begun}
 use Rattle.cases.proofs.Represents.{Represents, Holds, foundOf, payOf, datedOf, debitsHeld, pension-now}

@@ -25,16 +25,16 @@ use Rattle.frames.specs.declared.Factor.{Factor}
 use Rattle.frames.specs.declared.Debit.{Debit}
 use Rattle.frames.specs.declared.Frame.{Frame}
 use Rattle.frames.specs.Limits.{memberRefusal, yearStands, factorRefusal, debitRefusal}
+use Rattle.rules.specs.Rules.{WorkedYear, Frames, Kept, nothing, begun, given, any, lastOf, beforePay, hasSection, placed, isNext, yearRefusal, openPosts, afterFactor, afterDebit, refusalOf, addPost, keep}
+use Rattle.rules.specs.Working.{early2015, early1995, pensionFrom, pensionOf, ownParts, isFor, factorFor, debitFor, debitOf}
+use Rattle.rules.proofs.Ends.{Ended, empty, ends, ended, last-end, any-end, length-end, allButLast, butlast-end, joinedYear, add-end, open-end, pension-end, factor-end, debit-end}
 use Rattle.cases.specs.declared.Service.{Service}
 use Rattle.cases.specs.declared.Place.{Place}
 use Rattle.cases.specs.declared.Found.{Found}
 use Rattle.cases.specs.declared.Dated.{Dated}
 use Rattle.cases.specs.declared.Debits.{Debits}
 use Rattle.cases.specs.declared.Case.{Case}
-use Rattle.cases.specs.Rules.{WorkedYear, Frames, Kept, nothing, begun, given, any, lastOf, beforePay, hasSection, placed, isNext, yearRefusal, openPosts, afterFactor, afterDebit, refusalOf, addPost, keep}
-use Rattle.cases.specs.Working.{early2015, early1995, pensionFrom, pensionOf, ownParts, isFor, factorFor, debitFor, debitOf}
 use Rattle.cases.specs.State.{noPay, noPlace, noneFound, start, memberOrder, yearFields, yearOrder, postOrder, payOrder, pastPlace, factorOrder, debitOrder, caseRefusal, datedFor, withMember, pensionWith, pensionNow, withYear, withPost, withPay, foundBy, datedBy, withFactor, debitBy, withDebit, caseNext}
-use Rattle.cases.proofs.Ends.{Ended, empty, ends, ended, last-end, any-end, length-end, allButLast, butlast-end, joinedYear, add-end, open-end, pension-end, factor-end, debit-end}
 use Rattle.cases.proofs.Stages.{stageOf, stage-years, stage-posts, stage-factors, stage-begun, stage-some, stage-factor, stage-debit}
 
 -- ---- what the case holds of each kind of frame

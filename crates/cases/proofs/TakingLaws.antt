@@ -20,9 +20,9 @@ use Rattle.posts.proofs.Standing.{aggregate-most, posts-count}
 use Rattle.frames.specs.declared.Member.{Member}
 use Rattle.frames.specs.declared.Debit.{Debit}
 use Rattle.frames.specs.Limits.{memberRefusal, debitRefusal}
+use Rattle.rules.specs.Working.{ifPositive}
 use Rattle.cases.specs.declared.Case.{Case}
 use Rattle.cases.specs.declared.Taken.{Taken}
-use Rattle.cases.specs.Working.{ifPositive}
 use Rattle.cases.specs.State.{memberOrder, postOrder, debitOrder, handedBack}
 
 -- ---- the two answers of taking a frame, by its refusal as the code found it

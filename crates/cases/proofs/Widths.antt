@@ -20,14 +20,14 @@ use Rattle.frames.specs.declared.Factor.{Factor}
 use Rattle.frames.specs.declared.Debit.{Debit}
 use Rattle.frames.specs.Limits.{factorRefusal, debitRefusal}
 use Rattle.frames.proofs.Accepted.{year-good, factor-good, debit-good}
+use Rattle.rules.specs.Rules.{WorkedYear, Kept, nothing, begun, lastOf}
+use Rattle.rules.specs.Working.{pensionFrom, pensionOf, ownParts, orElse, isFor, factorFor, debitFor, debitOf}
+use Rattle.rules.proofs.Ends.{Ended, empty, ends, ended, last-end, allButLast, butlast-end, length-end}
 use Rattle.cases.specs.declared.Case.{Case}
 use Rattle.cases.specs.declared.Service.{Service}
 use Rattle.cases.specs.declared.Dated.{Dated}
 use Rattle.cases.specs.declared.Debits.{Debits}
-use Rattle.cases.specs.Rules.{WorkedYear, Kept, nothing, begun, lastOf}
-use Rattle.cases.specs.Working.{pensionFrom, pensionOf, ownParts, orElse, isFor, factorFor, debitFor, debitOf}
 use Rattle.cases.specs.State.{start, pensionNow, pensionWith, Bounds, FoundBounds}
-use Rattle.cases.proofs.Ends.{Ended, empty, ends, ended, last-end, allButLast, butlast-end, length-end}
 use Rattle.cases.proofs.Represents.{Represents, GoodYear, GoodPay, All, all-init, foundOf, payOf, serviceOf, datedOf, debitsHeld, pension-now}
 
 -- ---- the pension

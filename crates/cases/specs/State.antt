@@ -21,6 +21,8 @@ use Rattle.frames.specs.declared.Debit.{Debit}
 use Rattle.frames.specs.declared.Frame.{Frame}
 use Rattle.frames.specs.declared.Decoded.{Decoded}
 use Rattle.frames.specs.Limits.{memberRefusal, yearStands, factorRefusal, debitRefusal}
+use Rattle.rules.specs.declared.Outcome.{Outcome}
+use Rattle.rules.specs.Working.{early2015, early1995, reducedIf, workedUnless}
 use Rattle.cases.specs.declared.Service.{Service}
 use Rattle.cases.specs.declared.Place.{Place}
 use Rattle.cases.specs.declared.Found.{Found}
@@ -29,8 +31,6 @@ use Rattle.cases.specs.declared.Debits.{Debits}
 use Rattle.cases.specs.declared.Case.{Case}
 use Rattle.cases.specs.declared.Taken.{Taken}
 use Rattle.cases.specs.declared.Sums.{Sums}
-use Rattle.cases.specs.declared.Outcome.{Outcome}
-use Rattle.cases.specs.Working.{early2015, early1995, reducedIf, workedUnless}
 
 -- ---- the case with no frame
 

@@ -1,10 +1,7 @@
 // Closing a case: the refusals at the end, and the amounts.
-use super::Amounts;
 use super::Case;
 use super::Found;
 use super::MEMBER;
-use super::Outcome;
-use super::Refusal;
 use super::Sums;
 use benefits::charge;
 use benefits::final_pay;
@@ -14,11 +11,14 @@ use benefits::reduced;
 use benefits::section_pension;
 use measures::Months;
 use measures::Pence;
+use rules::Amounts;
+use rules::Outcome;
+use rules::Refusal;
 ghost use mathlib.Core.Path.{_≡_};
 ghost use mathlib.Core.List.{List};
 ghost use Prim.Native.Nat.{_^_, _≤_};
 ghost use Rattle.frames.specs.declared.Decoded.{Decoded};
-ghost use Rattle.cases.specs.Working.{reducedIf};
+ghost use Rattle.rules.specs.Working.{reducedIf};
 ghost use Rattle.cases.specs.State.{Bounds, wantedFound, wantedThere, openRefusal, pension1995Of, grossOf, debitsOf, covered, netOf, outcomeOf, afterAll};
 ghost use Rattle.cases.specs.Running.{IsCase, ClosedAfter};
 

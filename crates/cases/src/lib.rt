@@ -8,26 +8,6 @@ use posts::YearPosts;
 mod closing;
 mod taking;
 
-// The amounts of a worked case.
-pub struct Amounts {
-    pub net_2015: Pence,
-    pub net_1995: Pence,
-    pub net_lump_sum: Pence,
-    pub charge: Pence,
-}
-
-// A refusal: its number, and the line of a text, 0 for no line.
-pub struct Refusal {
-    pub number: u64,
-    pub line: u64,
-}
-
-// What a case comes to.
-pub enum Outcome {
-    Worked(Amounts),
-    Refused(Refusal),
-}
-
 // The years so far: how many, the April year and the revaluation of the last, and the pension before the last.
 pub struct Service {
     years: u64,

@@ -40,7 +40,7 @@ ghost use Rattle.calendar.specs.Dates.{Accepted};
 ghost use Rattle.frames.specs.Frames.{decoded};
 ghost use Rattle.frames.specs.declared.Decoded.{Decoded};
 ghost use Rattle.frames.specs.Limits.{debitRefusal, memberRefusal};
-ghost use Rattle.cases.specs.Working.{early};
+ghost use Rattle.rules.specs.Working.{early};
 ghost use Rattle.cases.specs.State.{noneFound, noMember, noPay, noDated, Bounds, pensionNow, memberOrder, yearFields, yearOrder, postOrder, payOrder, pastPlace, factorOrder, debitOrder, datedFor, foundBy, datedBy, debitBy, takenFrame, handedBack, withMember, withYear, withPost, withPay, withFactor, withDebit, afterAll};
 ghost use Rattle.cases.specs.Running.{IsCase, TakenFrom};
 

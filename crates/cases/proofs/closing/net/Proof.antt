@@ -1,6 +1,6 @@
 -- `cases::closing::net` meets its contract: a difference for each amount where the debits are covered, 14 otherwise.
 use borrow.Author.Tests.{not-true, not-false}
-use Rattle.cases.specs.Working.{workedUnless}
+use Rattle.rules.specs.Working.{workedUnless}
 use Rattle.cases.specs.State.{netOf}
 use Rattle.cases.proofs.ClosingLaws.{debits-fit}
 use borrow.Author.Needs.{needs}

@@ -1,6 +1,6 @@
 -- `cases::closing::reduced_if` meets its contract: nothing is reduced at no months early.
 use Rattle.measures.proofs.Tests.{tests}
-use Rattle.cases.specs.Working.{reducedIf}
+use Rattle.rules.specs.Working.{reducedIf}
 use borrow.Author.Needs.{needs}
 use Rattle.cases.proofs.closing.reduced_if.Statement.{statement}
 use Rattle.cases.proofs.closing.reduced_if.Tie as tie

@@ -1,5 +1,5 @@
 -- `cases::taking::wanted_months` meets its contract: months early above nought are wanted, nought and below are not.
-use Rattle.cases.specs.Working.{early}
+use Rattle.rules.specs.Working.{early}
 use Rattle.cases.proofs.TakingLaws.{early-wanted, late-wanted}
 use borrow.Author.Needs.{needs}
 use Rattle.cases.proofs.taking.wanted_months.Statement.{statement}

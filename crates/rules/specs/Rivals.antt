@@ -6,9 +6,9 @@ use lib.IntN.{ℤ, pos, _+ℤ_, _-ℤ_}
 use lib.Signed.{_≤ℤ_}
 use Rattle.posts.specs.Posts.{Rival}
 use Rattle.benefits.specs.Steps.{lumpDebit}
-use Rattle.cases.specs.declared.Amounts.{Amounts}
-use Rattle.cases.specs.Rules.{WorkedYear, Frames, Kept, nothing, begun}
-use Rattle.cases.specs.Working.{ownParts, ownPay, candidates, gross2015, gross1995, grossLumpSum, debit2015, debit1995, chargeOf}
+use Rattle.rules.specs.declared.Amounts.{Amounts}
+use Rattle.rules.specs.Rules.{WorkedYear, Frames, Kept, nothing, begun}
+use Rattle.rules.specs.Working.{ownParts, ownPay, candidates, gross2015, gross1995, grossLumpSum, debit2015, debit1995, chargeOf}
 
 -- what a working picks: the parts of each year's posts, and the final pay
 pub record Choice : Type 0 where

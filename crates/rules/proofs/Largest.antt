@@ -19,12 +19,12 @@ use Rattle.benefits.specs.declared.FinalPay.{FinalPay}
 use Rattle.benefits.specs.Steps.{finalPay, finalYear, reduced, lumpDebit}
 use Rattle.benefits.proofs.Monotone.{afterYear-mono, sectionPension-mono, lumpSum-mono, reduced-mono}
 use Rattle.benefits.proofs.Highest.{final-highest, final-latest}
-use Rattle.cases.specs.declared.Amounts.{Amounts}
-use Rattle.cases.specs.declared.Outcome.{Outcome}
-use Rattle.cases.specs.Rules.{WorkedYear, Frames, begun, hasSection}
-use Rattle.cases.specs.Working.{early2015, early1995, pensionFrom, pensionOf, ownParts, candidates, ownPay, pension1995, pensionFactor, lumpFactor, reducedIf, factor2015, factor1995, gross2015, gross1995, grossLumpSum, debit2015, debit1995, payThere, factorsThere, debitsFit, closingOf, amountsOf, workedUnless, answerOf}
-use Rattle.cases.specs.Rivals.{Choice, RivalParts, noYears, year, Picked, none as noPick, here, later, Allowed, net2015, net1995, netLumpSum, Given, AtMost, LargestOf}
-use Rattle.cases.proofs.Integers.{less-mono, less-both}
+use Rattle.rules.specs.declared.Amounts.{Amounts}
+use Rattle.rules.specs.declared.Outcome.{Outcome}
+use Rattle.rules.specs.Rules.{WorkedYear, Frames, begun, hasSection}
+use Rattle.rules.specs.Working.{early2015, early1995, pensionFrom, pensionOf, ownParts, candidates, ownPay, pension1995, pensionFactor, lumpFactor, reducedIf, factor2015, factor1995, gross2015, gross1995, grossLumpSum, debit2015, debit1995, payThere, factorsThere, debitsFit, closingOf, amountsOf, workedUnless, answerOf}
+use Rattle.rules.specs.Rivals.{Choice, RivalParts, noYears, year, Picked, none as noPick, here, later, Allowed, net2015, net1995, netLumpSum, Given, AtMost, LargestOf}
+use Rattle.rules.proofs.Integers.{less-mono, less-both}
 
 -- every post of every year has contracted minutes
 abbrev pub AllWorked : List WorkedYear → Type 0

@@ -13,9 +13,9 @@ use Rattle.benefits.specs.Steps.{afterYear, finalPay, sectionPension, lumpSum, 
 use Rattle.frames.specs.declared.Member.{Member}
 use Rattle.frames.specs.declared.Factor.{Factor}
 use Rattle.frames.specs.declared.Debit.{Debit}
-use Rattle.cases.specs.declared.Amounts.{Amounts}
-use Rattle.cases.specs.declared.Outcome.{Outcome}
-use Rattle.cases.specs.Rules.{WorkedYear, Frames, Kept, nothing, begun, given, hasSection}
+use Rattle.rules.specs.declared.Amounts.{Amounts}
+use Rattle.rules.specs.declared.Outcome.{Outcome}
+use Rattle.rules.specs.Rules.{WorkedYear, Frames, Kept, nothing, begun, given, hasSection}
 
 -- ---- Months early
 

@@ -12,9 +12,9 @@ use Rattle.posts.specs.Call.{postAt}
 use Rattle.benefits.specs.Steps.{revalued, accrued, afterYear, lumpDebit}
 use Rattle.frames.specs.Frames.{dateAt, memberIn, yearIn, frameLength, frameOf, decoded}
 use Rattle.frames.specs.Limits.{memberRefusal, yearStands}
-use Rattle.cases.specs.declared.Outcome.{Outcome}
-use Rattle.cases.specs.Rules.{lastOf, beforePay, hasSection, isNext, yearRefusal, openPosts, refusalOf, addPost, keep, refusalOfDecoded, keepDecoded, decodedAll, kept}
-use Rattle.cases.specs.Working.{early, pensionFrom, pensionOf, ownPay, pension1995, factorFor, reducedIf, gross2015, gross1995, grossLumpSum, debitFor, debitOf, debit2015, debit1995, chargeOf, payThere, factorsThere, debitsFit, closingOf, amountsOf, workedUnless, answerOf}
+use Rattle.rules.specs.declared.Outcome.{Outcome}
+use Rattle.rules.specs.Rules.{lastOf, beforePay, hasSection, isNext, yearRefusal, openPosts, refusalOf, addPost, keep, refusalOfDecoded, keepDecoded, decodedAll, kept}
+use Rattle.rules.specs.Working.{early, pensionFrom, pensionOf, ownPay, pension1995, factorFor, reducedIf, gross2015, gross1995, grossLumpSum, debitFor, debitOf, debit2015, debit1995, chargeOf, payThere, factorsThere, debitsFit, closingOf, amountsOf, workedUnless, answerOf}
 
 abbrev pub printed : List (List ℕ)
 printed =

@@ -12,8 +12,8 @@ use Rattle.posts.specs.Posts.{aggregate, aggregatePay, parts}
 use Rattle.benefits.specs.Steps.{afterYear}
 use Rattle.frames.specs.declared.Factor.{Factor}
 use Rattle.frames.specs.declared.Debit.{Debit}
-use Rattle.cases.specs.Rules.{WorkedYear, any, lastOf, postsIn, openPosts, addPost}
-use Rattle.cases.specs.Working.{pensionFrom, pensionOf, ownParts, orElse, isFor, factorFor, debitFor}
+use Rattle.rules.specs.Rules.{WorkedYear, any, lastOf, postsIn, openPosts, addPost}
+use Rattle.rules.specs.Working.{pensionFrom, pensionOf, ownParts, orElse, isFor, factorFor, debitFor}
 
 -- a list is empty, or it has a last element
 pub data Ended {A : Type 0} : List A → Type 0 where
