@@ -5,4 +5,3 @@ pub mod Answer
 pub mod Widths
 pub mod Contracts
 pub mod TakingLaws
-pub mod ClosingLaws
