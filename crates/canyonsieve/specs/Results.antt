@@ -2,8 +2,8 @@
 use Prim.Native.Nat.{ℕ}
 use mathlib.Core.Path.{_≡_}
 use Rattle.benefits.specs.declared.FinalPay.{FinalPay}
-use Rattle.cases.specs.declared.Outcome.{Outcome}
-use Rattle.cases.specs.Working.{numberOf, lineOf, amountsGiven}
+use Rattle.rules.specs.declared.Outcome.{Outcome}
+use Rattle.rules.specs.Working.{numberOf, lineOf, amountsGiven}
 use Rattle.canyonsieve.specs.declared.CaseFigures.{CaseFigures}
 
 -- the ten numbers of a final pay frame

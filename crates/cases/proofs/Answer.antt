@@ -9,12 +9,13 @@ use Rattle.measures.specs.Refusals.{unless, first}
 use Rattle.benefits.specs.declared.FinalPay.{FinalPay}
 use Rattle.benefits.specs.Steps.{finalPay, finalYear, sectionPension, lumpDebit, controlled, raised, allowed3, allowed2, allowed1, allowedIn, excess, excessPension, chargeFrom, charge}
 use Rattle.frames.specs.declared.Factor.{Factor}
-use Rattle.cases.specs.declared.Amounts.{Amounts}
-use Rattle.cases.specs.declared.Outcome.{Outcome}
+use Rattle.rules.specs.declared.Amounts.{Amounts}
+use Rattle.rules.specs.declared.Outcome.{Outcome}
+use Rattle.rules.specs.Rules.{Frames, Kept, nothing, begun, given, hasSection}
+use Rattle.rules.specs.Working.{ownParts, ownPay, pension1995, pensionFactor, lumpFactor, gross2015, gross1995, grossLumpSum, debit2015, debit1995, chargeOf, payThere, factorsThere, debitsFit, closingOf, amountsOf, workedUnless, answerOf}
+use Rattle.tallies.specs.Closing.{wantedThere, openRefusal, pension1995Of, grossOf, debitsOf, netOf}
 use Rattle.cases.specs.declared.Case.{Case}
-use Rattle.cases.specs.Rules.{Frames, Kept, nothing, begun, given, hasSection}
-use Rattle.cases.specs.Working.{ownParts, ownPay, pension1995, pensionFactor, lumpFactor, gross2015, gross1995, grossLumpSum, debit2015, debit1995, chargeOf, payThere, factorsThere, debitsFit, closingOf, amountsOf, workedUnless, answerOf}
-use Rattle.cases.specs.State.{start, sectionOf, wantedThere, openRefusal, pension1995Of, grossOf, debitsOf, netOf, outcomeOf}
+use Rattle.cases.specs.State.{start, refusalAtEnd, pensionNow, outcomeOf}
 use Rattle.cases.proofs.Stages.{stage-begun}
 use Rattle.cases.proofs.Represents.{Represents, Holds, foundOf, payOf, datedOf, debitsHeld, pension-now}
 
@@ -42,27 +43,27 @@ charge-is none = refl
 charge-is (some f) = refl
 
 module _ (c : Case) (k : Frames) (h : Holds c k) where
-  section-is : sectionOf c ≡ hasSection k
-  unfolding sectionOf hasSection
+  section-is : eqb (c .member .section) 1 ≡ hasSection k
+  unfolding hasSection
   section-is = rw (h .member) refl
 
-  wanted-is : wantedThere c ≡ factorsThere k
+  wanted-is : wantedThere (c .member .section) (c .dated) ≡ factorsThere k
   unfolding wantedThere factorsThere datedOf
   wanted-is = rw (section-is, h .dated) (rw (found-is, found-is) refl)
 
-  refusal-is : openRefusal c ≡ first (unless (payThere k) 12) (unless (factorsThere k) 13)
+  refusal-is : refusalAtEnd c ≡ first (unless (payThere k) 12) (unless (factorsThere k) 13)
   unfolding openRefusal payThere
   refusal-is = rw (wanted-is, section-is, h .stage, h .given, stage-begun k) refl
 
-  pension1995-is : pension1995Of c ≡ pension1995 (k .finalPay) (ownPay (k .finalPay))
+  pension1995-is : pension1995Of (c .pay) ≡ pension1995 (k .finalPay) (ownPay (k .finalPay))
   unfolding pension1995Of
   pension1995-is = rw (h .pay) (section-pension (k .finalPay))
 
-  gross-is : grossOf c ≡ record { pension2015 = record { 0 = gross2015 k (ownParts (k .years)) }; pension1995 = record { 0 = gross1995 k (ownPay (k .finalPay)) }; lump = record { 0 = grossLumpSum k (ownPay (k .finalPay)) } }
+  gross-is : grossOf (c .member .section) (c .dated) (c .pay) (pensionNow c) ≡ record { pension2015 = record { 0 = gross2015 k (ownParts (k .years)) }; pension1995 = record { 0 = gross1995 k (ownPay (k .finalPay)) }; lump = record { 0 = grossLumpSum k (ownPay (k .finalPay)) } }
   unfolding grossOf gross2015 gross1995 grossLumpSum datedOf
   gross-is = rw (pension-now c k h, pension1995-is, section-is, h .dated) (rw (pension-is, pension-is, lump-is) refl)
 
-  debits-are : debitsOf c ≡ record { pension2015 = record { 0 = debit2015 k }; pension1995 = record { 0 = debit1995 k }; lump = record { 0 = lumpDebit (debit1995 k) } }
+  debits-are : debitsOf (c .member .section) (c .debits) ≡ record { pension2015 = record { 0 = debit2015 k }; pension1995 = record { 0 = debit1995 k }; lump = record { 0 = lumpDebit (debit1995 k) } }
   unfolding debitsOf debit2015 debit1995 debitsHeld
   debits-are = rw (section-is, h .debits) refl
 

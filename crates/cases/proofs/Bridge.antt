@@ -5,8 +5,8 @@ use borrow.Author.Tests.{eq-eqb}
 use Rattle.measures.specs.Tries.{tried, after, plain}
 use Rattle.measures.proofs.Trying.{after-meant, after-end, after-without, after-relates}
 use Rattle.frames.specs.declared.Decoded.{Decoded}
+use Rattle.rules.specs.Rules.{Kept, nothing, refusalOfDecoded, keepDecoded, kept, framesMeant}
 use Rattle.cases.specs.declared.Case.{Case}
-use Rattle.cases.specs.Rules.{Kept, nothing, refusalOfDecoded, keepDecoded, kept, framesMeant}
 use Rattle.cases.specs.State.{start, refusalOfCase, nextOfCase, afterAll}
 use Rattle.cases.proofs.Represents.{Represents, frame-agrees, frame-keeps}
 

@@ -8,19 +8,19 @@ use Rattle.measures.proofs.Trying.{tried-refused}
 use Rattle.posts.proofs.Standing.{stand-worked}
 use Rattle.frames.specs.declared.Frame.{Frame}
 use Rattle.frames.specs.declared.Decoded.{Decoded}
-use Rattle.cases.specs.declared.Amounts.{Amounts}
-use Rattle.cases.specs.declared.Outcome.{Outcome}
+use Rattle.rules.specs.declared.Amounts.{Amounts}
+use Rattle.rules.specs.declared.Outcome.{Outcome}
+use Rattle.rules.specs.Rules.{WorkedYear, Kept, nothing, begun, decodedAll, kept}
+use Rattle.rules.specs.Working.{answerOf}
+use Rattle.rules.specs.Rivals.{Largest}
+use Rattle.rules.proofs.Largest.{AllWorked, largest-kept}
 use Rattle.cases.specs.declared.Case.{Case}
 use Rattle.cases.specs.declared.Taken.{Taken}
-use Rattle.cases.specs.Rules.{WorkedYear, Kept, nothing, begun, decodedAll, kept}
-use Rattle.cases.specs.Working.{answerOf}
-use Rattle.cases.specs.Rivals.{Largest}
 use Rattle.cases.specs.State.{start, takenFrame, refusalOfCase, nextOfCase, takenDecoded, afterAll, outcomeOf, Bounds}
 use Rattle.cases.specs.Running.{IsCase, TakenFrom, ClosedAfter}
 use Rattle.cases.proofs.Represents.{Represents, GoodYear, All}
 use Rattle.cases.proofs.Bridge.{refusal-agrees, represents, after-one-more}
 use Rattle.cases.proofs.Answer.{closing-agrees}
-use Rattle.cases.proofs.Largest.{AllWorked, largest-kept}
 use Rattle.cases.proofs.Widths.{represented-bounds}
 
 -- ---- demand 3 for the running case

@@ -1,12 +1,7 @@
-pub mod Ends
 pub mod Stages
 pub mod Represents
 pub mod Bridge
 pub mod Answer
-pub mod Integers
-pub mod Largest
 pub mod Widths
 pub mod Contracts
-pub mod Example
 pub mod TakingLaws
-pub mod ClosingLaws

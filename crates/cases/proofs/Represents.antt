@@ -25,16 +25,17 @@ use Rattle.frames.specs.declared.Factor.{Factor}
 use Rattle.frames.specs.declared.Debit.{Debit}
 use Rattle.frames.specs.declared.Frame.{Frame}
 use Rattle.frames.specs.Limits.{memberRefusal, yearStands, factorRefusal, debitRefusal}
-use Rattle.cases.specs.declared.Service.{Service}
-use Rattle.cases.specs.declared.Place.{Place}
-use Rattle.cases.specs.declared.Found.{Found}
-use Rattle.cases.specs.declared.Dated.{Dated}
-use Rattle.cases.specs.declared.Debits.{Debits}
+use Rattle.rules.specs.Rules.{WorkedYear, Frames, Kept, nothing, begun, given, any, lastOf, beforePay, hasSection, placed, isNext, yearRefusal, openPosts, afterFactor, afterDebit, refusalOf, addPost, keep}
+use Rattle.rules.specs.Working.{early2015, early1995, pensionFrom, pensionOf, ownParts, isFor, factorFor, debitFor, debitOf}
+use Rattle.rules.proofs.Ends.{Ended, empty, ends, ended, last-end, any-end, length-end, allButLast, butlast-end, joinedYear, add-end, open-end, pension-end, factor-end, debit-end}
+use Rattle.tallies.specs.declared.Service.{Service}
+use Rattle.tallies.specs.declared.Place.{Place}
+use Rattle.tallies.specs.declared.Found.{Found}
+use Rattle.tallies.specs.declared.Dated.{Dated}
+use Rattle.tallies.specs.declared.Debits.{Debits}
+use Rattle.tallies.specs.Taking.{noPay, noPlace, noneFound, memberOrder, yearFields, yearOrder, postOrder, payOrder, pastPlace, factorOrder, debitOrder, datedFor, pensionWith, foundBy, datedBy, debitBy}
 use Rattle.cases.specs.declared.Case.{Case}
-use Rattle.cases.specs.Rules.{WorkedYear, Frames, Kept, nothing, begun, given, any, lastOf, beforePay, hasSection, placed, isNext, yearRefusal, openPosts, afterFactor, afterDebit, refusalOf, addPost, keep}
-use Rattle.cases.specs.Working.{early2015, early1995, pensionFrom, pensionOf, ownParts, isFor, factorFor, debitFor, debitOf}
-use Rattle.cases.specs.State.{noPay, noPlace, noneFound, start, memberOrder, yearFields, yearOrder, postOrder, payOrder, pastPlace, factorOrder, debitOrder, caseRefusal, datedFor, withMember, pensionWith, pensionNow, withYear, withPost, withPay, foundBy, datedBy, withFactor, debitBy, withDebit, caseNext}
-use Rattle.cases.proofs.Ends.{Ended, empty, ends, ended, last-end, any-end, length-end, allButLast, butlast-end, joinedYear, add-end, open-end, pension-end, factor-end, debit-end}
+use Rattle.cases.specs.State.{start, caseRefusal, withMember, pensionNow, withYear, withPost, withPay, withFactor, withDebit, caseNext}
 use Rattle.cases.proofs.Stages.{stageOf, stage-years, stage-posts, stage-factors, stage-begun, stage-some, stage-factor, stage-debit}
 
 -- ---- what the case holds of each kind of frame
@@ -173,19 +174,19 @@ not-any true e = sym e
 not-any false e = refl
 
 module _ (c : Case) (k : Frames) (h : Holds c k) where
-  year-agrees : (y : Year) → yearOrder c y ≡ placed (beforePay k) (yearRefusal (k .years) y)
+  year-agrees : (y : Year) → yearOrder (c .stage) (c .service) y ≡ placed (beforePay k) (yearRefusal (k .years) y)
   unfolding yearOrder
   year-agrees y = rw (h .stage, h .service, stage-years k, year-fields (k .years) y) refl
 
-  post-agrees : (x : Post) → postOrder c x ≡ placed (beforePay k && any (k .years)) (postRefusal (openPosts (k .years)) x)
+  post-agrees : (x : Post) → postOrder (c .stage) (postsOf (c .posts)) x ≡ placed (beforePay k && any (k .years)) (postRefusal (openPosts (k .years)) x)
   unfolding postOrder
   post-agrees x = rw (h .stage, h .posts, stage-posts k) refl
 
-  pay-agrees : (f : FinalPay) → payOrder c f ≡ placed (beforePay k && hasSection k) (finalPayRefusal f)
+  pay-agrees : (f : FinalPay) → payOrder (c .stage) (c .member .section) f ≡ placed (beforePay k && hasSection k) (finalPayRefusal f)
   unfolding payOrder hasSection
   pay-agrees f = rw (h .stage, h .member, stage-years k) refl
 
-  factor-agrees : (f : Factor) → factorOrder c f ≡ placed (not (any (k .debits))) (first (factorRefusal f (k .member .section)) (unless (afterFactor (lastOf (k .factors)) f) 10))
+  factor-agrees : (f : Factor) → factorOrder (c .stage) (c .member .section) (c .previous) f ≡ placed (not (any (k .debits))) (first (factorRefusal f (k .member .section)) (unless (afterFactor (lastOf (k .factors)) f) 10))
   unfolding factorOrder
   factor-agrees f =
       rw (h .stage, h .member, h .previous, stage-factors k)
@@ -193,7 +194,7 @@ module _ (c : Case) (k : Frames) (h : Holds c k) where
       (λ (e : not (any (k .debits)) ≡ true).
       rw (stage-factor k (not-any _ e), past-last (k .factors) f) refl))
 
-  debit-agrees : (d : Debit) → debitOrder c d ≡ first (debitRefusal d (k .member .section)) (unless (afterDebit (lastOf (k .debits)) d) 11)
+  debit-agrees : (d : Debit) → debitOrder (c .stage) (c .member .section) (c .debits) d ≡ first (debitRefusal d (k .member .section)) (unless (afterDebit (lastOf (k .debits)) d) 11)
   unfolding debitOrder debitsHeld
   debit-agrees d = rw (h .stage, h .member, h .debits, stage-begun k, stage-debit k, past-debit (k .debits) d) refl
 

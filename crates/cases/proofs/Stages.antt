@@ -4,7 +4,7 @@ use mathlib.Core.Path.{_≡_, refl, _∙_}
 use mathlib.Core.Bool.{Bool, true, false, _&&_, not, cond}
 use lib.Dec.{leb, eqb}
 use Rattle.measures.specs.Refusals.{within}
-use Rattle.cases.specs.Rules.{Frames, given, any, beforePay}
+use Rattle.rules.specs.Rules.{Frames, given, any, beforePay}
 
 -- by whether there are debits, factors, a final pay, years
 abbrev stage : Bool → Bool → Bool → Bool → ℕ

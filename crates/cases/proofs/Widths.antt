@@ -20,14 +20,14 @@ use Rattle.frames.specs.declared.Factor.{Factor}
 use Rattle.frames.specs.declared.Debit.{Debit}
 use Rattle.frames.specs.Limits.{factorRefusal, debitRefusal}
 use Rattle.frames.proofs.Accepted.{year-good, factor-good, debit-good}
+use Rattle.rules.specs.Rules.{WorkedYear, Kept, nothing, begun, lastOf}
+use Rattle.rules.specs.Working.{pensionFrom, pensionOf, ownParts, orElse, isFor, factorFor, debitFor, debitOf}
+use Rattle.rules.proofs.Ends.{Ended, empty, ends, ended, last-end, allButLast, butlast-end, length-end}
+use Rattle.tallies.specs.declared.Debits.{Debits}
+use Rattle.tallies.specs.Taking.{pensionWith}
+use Rattle.tallies.specs.Bounds.{ServiceBounds, FoundBounds, DatedBounds}
 use Rattle.cases.specs.declared.Case.{Case}
-use Rattle.cases.specs.declared.Service.{Service}
-use Rattle.cases.specs.declared.Dated.{Dated}
-use Rattle.cases.specs.declared.Debits.{Debits}
-use Rattle.cases.specs.Rules.{WorkedYear, Kept, nothing, begun, lastOf}
-use Rattle.cases.specs.Working.{pensionFrom, pensionOf, ownParts, orElse, isFor, factorFor, debitFor, debitOf}
-use Rattle.cases.specs.State.{start, pensionNow, pensionWith, Bounds, FoundBounds}
-use Rattle.cases.proofs.Ends.{Ended, empty, ends, ended, last-end, allButLast, butlast-end, length-end}
+use Rattle.cases.specs.State.{start, pensionNow, Bounds}
 use Rattle.cases.proofs.Represents.{Represents, GoodYear, GoodPay, All, all-init, foundOf, payOf, serviceOf, datedOf, debitsHeld, pension-now}
 
 -- ---- the pension
@@ -46,12 +46,6 @@ unfolding pensionOf ceiling
 pension-limit ys g few = le-trans (pension-ceiling 0 0 ys g (omega arith)) (ceiling-fits (0 + length ys) (omega arith))
 
 -- ---- the last year
-
-record ServiceBounds (s : Service) : Type 0 where
-  years : s .years ≤ 50
-  april : s .april ≤ 2100
-  revaluation : s .revaluation ≤ 2000
-  pension : s .pension .0 ≤ 2 ^ 50
 
 service-bounds : (ys : List WorkedYear) → All GoodYear ys → length ys ≤ 50 → ServiceBounds (serviceOf ys)
 unfolding serviceOf allButLast pensionOf pensionFrom lastOf
@@ -108,29 +102,23 @@ represented-bounds c nothing h =
     rw h
     (record {
       posts = held-none;
-      years = omega arith;
-      april = omega arith;
-      revaluation = omega arith;
-      pension = omega arith;
+      service = record { years = omega arith; april = omega arith; revaluation = omega arith; pension = omega arith };
       now = omega arith;
       pay = pay-bounds none tt;
-      factor2015 = none-bounds;
-      factor1995 = none-bounds;
-      debit2015 = omega arith;
+      dated = record { factor2015 = none-bounds; factor1995 = none-bounds };
       debit1995 = omega arith;
     })
 represented-bounds c (begun k) (h, g) =
-    let s = subst ServiceBounds (sym (h .service)) (service-bounds (k .years) (g .years) (g .few)) in
     record {
       posts = h .held;
-      years = s .years;
-      april = s .april;
-      revaluation = s .revaluation;
-      pension = s .pension;
+      service = subst ServiceBounds (sym (h .service)) (service-bounds (k .years) (g .years) (g .few));
       now = le-trans (le-of-eq (pension-now c k h)) (pension-limit (k .years) (g .years) (g .few));
       pay = subst FinalPayBounds (sym (h .pay)) (pay-bounds (k .finalPay) (g .pay));
-      factor2015 = subst (λ (d : Dated). FoundBounds (d .factor2015)) (sym (h .dated)) (factor-bounds (k .member .section) 0 _ (k .factors) (g .factors));
-      factor1995 = subst (λ (d : Dated). FoundBounds (d .factor1995)) (sym (h .dated)) (factor-bounds (k .member .section) 1 _ (k .factors) (g .factors));
-      debit2015 = subst (λ (d : Debits). d .pension2015 .0 ≤ 100000000000) (sym (h .debits)) (debit-bounds (k .member .section) 0 (k .debits) (g .debits));
+      dated =
+          subst DatedBounds (sym (h .dated))
+          (record {
+            factor2015 = factor-bounds (k .member .section) 0 _ (k .factors) (g .factors);
+            factor1995 = factor-bounds (k .member .section) 1 _ (k .factors) (g .factors);
+          });
       debit1995 = subst (λ (d : Debits). d .pension1995 .0 ≤ 100000000000) (sym (h .debits)) (debit-bounds (k .member .section) 1 (k .debits) (g .debits));
     }

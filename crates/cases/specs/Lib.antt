@@ -1,5 +1,2 @@
-pub mod Rules
-pub mod Working
-pub mod Rivals
 pub mod State
 pub mod Running

@@ -2,13 +2,13 @@
 use mathlib.Core.Path.{_≡_}
 use mathlib.Core.List.{List, [], _∷_, _++_}
 use Rattle.frames.specs.declared.Decoded.{Decoded}
-use Rattle.cases.specs.declared.Amounts.{Amounts}
-use Rattle.cases.specs.declared.Outcome.{Outcome}
+use Rattle.rules.specs.declared.Amounts.{Amounts}
+use Rattle.rules.specs.declared.Outcome.{Outcome}
+use Rattle.rules.specs.Rules.{kept, refusalOfDecoded}
+use Rattle.rules.specs.Working.{answerOf}
+use Rattle.rules.specs.Rivals.{Largest}
 use Rattle.cases.specs.declared.Case.{Case}
 use Rattle.cases.specs.declared.Taken.{Taken}
-use Rattle.cases.specs.Rules.{kept, refusalOfDecoded}
-use Rattle.cases.specs.Working.{answerOf}
-use Rattle.cases.specs.Rivals.{Largest}
 use Rattle.cases.specs.State.{afterAll}
 
 -- a case is what some list of frames made of it, refused ones included

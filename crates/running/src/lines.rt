@@ -1,8 +1,8 @@
 // The lines that the program writes.
-use cases::Amounts;
 use cases::Case;
-use cases::Outcome;
 use measures::Pence;
+use rules::Amounts;
+use rules::Outcome;
 ghost use Prim.Native.Nat.{_≤_};
 ghost use Rattle.cases.specs.Running.{IsCase};
 

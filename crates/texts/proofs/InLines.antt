@@ -16,11 +16,11 @@ use Rattle.frames.specs.declared.Frame.{Frame}
 use Rattle.frames.specs.declared.Decoded.{Decoded}
 use Rattle.frames.specs.Frames.{frameLength, kindOf, decoded}
 use Rattle.frames.proofs.Bytes.{decoded-three}
-use Rattle.cases.specs.declared.Outcome.{Outcome}
+use Rattle.rules.specs.declared.Outcome.{Outcome}
+use Rattle.rules.specs.Rules.{Kept, nothing, refusalOfDecoded, keepDecoded, kept}
+use Rattle.rules.specs.Working.{answerOf}
 use Rattle.cases.specs.declared.Case.{Case}
 use Rattle.cases.specs.declared.Taken.{Taken}
-use Rattle.cases.specs.Rules.{Kept, nothing, refusalOfDecoded, keepDecoded, kept}
-use Rattle.cases.specs.Working.{answerOf}
 use Rattle.cases.specs.State.{afterAll}
 use Rattle.cases.specs.Running.{IsCase, TakenAfter, TakenFrom, ClosedAfter}
 use Rattle.cases.proofs.Bridge.{kept-one-more}

@@ -10,13 +10,13 @@ use borrow.Author.Tests.{eqb-true, eqb-false}
 use Rattle.measures.specs.Tries.{tried, after, Unrefused, done, more}
 use Rattle.measures.proofs.Trying.{after-join}
 use Rattle.frames.specs.declared.Decoded.{Decoded}
-use Rattle.cases.specs.declared.Amounts.{Amounts}
-use Rattle.cases.specs.declared.Refusal.{Refusal}
-use Rattle.cases.specs.declared.Outcome.{Outcome}
+use Rattle.rules.specs.declared.Amounts.{Amounts}
+use Rattle.rules.specs.declared.Refusal.{Refusal}
+use Rattle.rules.specs.declared.Outcome.{Outcome}
+use Rattle.rules.specs.Rules.{Kept, nothing, begun, refusalOfDecoded, keepDecoded, kept}
+use Rattle.rules.specs.Working.{closingOf, amountsOf, workedUnless, answerOf, numberOf, amountsGiven}
+use Rattle.rules.specs.Rivals.{Largest}
 use Rattle.cases.specs.declared.Case.{Case}
-use Rattle.cases.specs.Rules.{Kept, nothing, begun, refusalOfDecoded, keepDecoded, kept}
-use Rattle.cases.specs.Working.{closingOf, amountsOf, workedUnless, answerOf, numberOf, amountsGiven}
-use Rattle.cases.specs.Rivals.{Largest}
 use Rattle.cases.specs.State.{refusalOfCase, nextOfCase, afterAll, outcomeOf}
 use Rattle.cases.proofs.Represents.{Represents}
 use Rattle.cases.proofs.Bridge.{represents, refusal-agrees, after-one-more}

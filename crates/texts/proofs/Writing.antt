@@ -6,7 +6,7 @@ use native.Mathlib.Omega.{arith}
 use native.Mathlib.Numerals.{sub-one}
 use lib.ListN.{length, take, getD, set, length-set, length-append, length-take}
 use lib.Seq.{take-suc, set-at, take-set-lt, length-take-le}
-use Rattle.cases.specs.declared.Outcome.{Outcome}
+use Rattle.rules.specs.declared.Outcome.{Outcome}
 use Rattle.texts.specs.declared.PrintedLine.{PrintedLine}
 use Rattle.texts.specs.Printed.{characterOf, digitsOf, Printed}
 use Rattle.texts.specs.Lines.{Extended}

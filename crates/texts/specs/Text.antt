@@ -8,12 +8,12 @@ use lib.Dec.{ltb, leb, eqb}
 use lib.ListN.{length}
 use Rattle.frames.specs.declared.Decoded.{Decoded}
 use Rattle.frames.specs.Frames.{decoded}
-use Rattle.cases.specs.declared.Amounts.{Amounts}
-use Rattle.cases.specs.declared.Refusal.{Refusal}
-use Rattle.cases.specs.declared.Outcome.{Outcome}
-use Rattle.cases.specs.Rules.{Kept, nothing, refusalOfDecoded, keepDecoded, kept}
-use Rattle.cases.specs.Working.{answerOf}
-use Rattle.cases.specs.Rivals.{Largest}
+use Rattle.rules.specs.declared.Amounts.{Amounts}
+use Rattle.rules.specs.declared.Refusal.{Refusal}
+use Rattle.rules.specs.declared.Outcome.{Outcome}
+use Rattle.rules.specs.Rules.{Kept, nothing, refusalOfDecoded, keepDecoded, kept}
+use Rattle.rules.specs.Working.{answerOf}
+use Rattle.rules.specs.Rivals.{Largest}
 use Rattle.texts.specs.declared.Digit.{Digit}
 
 -- ---- the first stage: "A text is lines of digits 0-9 and A-F, two to a byte, each line ended by byte 0A."

@@ -1,6 +1,6 @@
 // The line that the case program prints.
 use super::PrintedLine;
-use cases::Outcome;
+use rules::Outcome;
 ghost use mathlib.Core.Path.{_≡_};
 ghost use mathlib.Core.List.{[], _∷_};
 ghost use Prim.Native.Nat.{_<_};

@@ -1,10 +1,10 @@
 // A text read line by line into a running case.
 use super::Digit;
 use cases::Case;
-use cases::Outcome;
-use cases::Refusal;
 use frames::Decoded;
 use frames::decode;
+use rules::Outcome;
+use rules::Refusal;
 ghost use mathlib.Core.Path.{_≡_};
 ghost use Rattle.texts.specs.Text.{digitOf, TextWorked};
 

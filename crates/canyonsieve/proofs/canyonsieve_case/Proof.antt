@@ -1,6 +1,6 @@
 -- `canyonsieve::canyonsieve_case` meets its contract.
 use mathlib.Core.Path.{sym, _∙_, subst}
-use Rattle.cases.specs.declared.Outcome.{Outcome}
+use Rattle.rules.specs.declared.Outcome.{Outcome}
 use Rattle.texts.proofs.Worked.{largest-given}
 use Rattle.canyonsieve.specs.Results.{Flat}
 use borrow.Author.Needs.{needs}

@@ -1,6 +1,6 @@
 -- `canyonsieve::case_figures` meets its contract.
 use mathlib.Core.Path.{refl}
-use Rattle.cases.specs.Working.{numberOf, lineOf, amountsGiven}
+use Rattle.rules.specs.Working.{numberOf, lineOf, amountsGiven}
 use borrow.Author.Needs.{needs}
 use native.Mathlib.Omega.{arith}
 use Rattle.canyonsieve.proofs.case_figures.Statement.{statement}

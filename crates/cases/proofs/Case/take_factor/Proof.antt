@@ -16,7 +16,7 @@ dated-by-requires c κs = search needs
 
 returns-2 : tie.Need-returns-2
 unfolding withFactor
-returns-2 c = handed-accepted _ _ (c .before .before .before .before .refusal-of-factor .ensures) (c .before .before .before .if1 .left) (rw (c .dated-by .ensures))
+returns-2 c = handed-accepted _ _ (c .before .before .before .refusal-of-factor .ensures) (c .before .before .if1 .left) (rw (c .dated-by .ensures))
 
 pub take-factor-spec : {M : Type 1} → statement M
 take-factor-spec =

@@ -1,7 +1,8 @@
 -- `cases::Case::take_member` meets its contract: refused, the case is handed back unchanged; otherwise it is advanced by the frame.
 use mathlib.Core.Path.{sym, _∙_}
+use Rattle.tallies.proofs.TakingLaws.{member-passed}
 use Rattle.cases.specs.State.{withMember}
-use Rattle.cases.proofs.TakingLaws.{handed-refused, handed-accepted, member-passed}
+use Rattle.cases.proofs.TakingLaws.{handed-refused, handed-accepted}
 use borrow.Author.Needs.{needs}
 use Rattle.cases.proofs.Case.take_member.Statement.{statement}
 use Rattle.cases.proofs.Case.take_member.Tie as tie

@@ -1,0 +1,221 @@
+-- "Steps" over the frames kept: one working, ours and a rival's, from the parts and the final pay that it picks.
+use Prim.Native.Nat.{ℕ, _+_, _-_}
+use mathlib.Core.Bool.{Bool, _&&_, _||_, not, cond}
+use mathlib.Core.List.{List, [], _∷_}
+use mathlib.Core.Option.{Option, none, some}
+use lib.Dec.{leb, eqb}
+use lib.IntN.{ℤ, pos, negsuc}
+use Rattle.measures.specs.Refusals.{unless, first}
+use Rattle.calendar.specs.Dates.{monthsEarly}
+use Rattle.posts.specs.Posts.{aggregate, parts}
+use Rattle.benefits.specs.declared.FinalPay.{FinalPay}
+use Rattle.benefits.specs.Steps.{afterYear, finalPay, sectionPension, lumpSum, reduced, pensionDebit, lumpDebit, charge}
+use Rattle.frames.specs.declared.Member.{Member}
+use Rattle.frames.specs.declared.Factor.{Factor}
+use Rattle.frames.specs.declared.Debit.{Debit}
+use Rattle.rules.specs.declared.Amounts.{Amounts}
+use Rattle.rules.specs.declared.Outcome.{Outcome}
+use Rattle.rules.specs.Rules.{WorkedYear, Frames, Kept, nothing, begun, given, hasSection}
+
+-- ---- Months early
+
+-- "which may be nought or negative; then nothing is reduced": 0 where it is not positive
+abbrev pub ifPositive : ℤ → ℕ
+ifPositive (pos months) = months
+ifPositive (negsuc months) = 0
+
+-- months early of a member at a pension age, 0 where retirement is not early
+unfoldable pub early : Member → ℕ → ℕ
+early m pensionAge = ifPositive (monthsEarly (m .birth) (m .retirement) pensionAge)
+
+-- "60 for the 1995 Section (public scheme rule)"
+abbrev pub sectionPensionAge : ℕ
+sectionPensionAge = 60
+
+-- "Pension age is the member's for the 2015 Scheme"
+abbrev pub early2015 : Member → ℕ
+early2015 m = early m (m .age)
+
+-- "60 for the 1995 Section"
+abbrev pub early1995 : Member → ℕ
+early1995 m = early m sectionPensionAge
+
+-- ---- Years, with the parts of each year's posts
+
+-- "For each year in order it becomes rounded(pension × (10,000 + r)/10,000) + rounded(aggregate/54)"
+unfoldable pub pensionFrom : ℕ → List WorkedYear → List (List ℕ) → ℕ
+pensionFrom pension [] qs = pension
+pensionFrom pension (y ∷ ys) [] = pension
+pensionFrom pension (y ∷ ys) (q ∷ qs) = pensionFrom (afterYear pension (y .year .revaluation) (aggregate (y .posts) q)) ys qs
+
+-- "The pension starts at 0."
+unfoldable pub pensionOf : List WorkedYear → List (List ℕ) → ℕ
+pensionOf years qs = pensionFrom 0 years qs
+
+-- ours: the parts that the posts step gives
+abbrev pub ownParts : List WorkedYear → List (List ℕ)
+ownParts [] = []
+ownParts (y ∷ ys) = parts (y .posts) ∷ ownParts ys
+
+-- ---- Final pay
+
+-- "any of years 3 to 1 for final pay; without a section there is none to pick"
+abbrev pub candidates : Option FinalPay → List ℕ
+candidates none = []
+candidates (some f) = f .pay3 .0 ∷ f .pay2 .0 ∷ f .pay1 .0 ∷ []
+
+-- ours: "the highest of years 3 to 1"
+unfoldable pub ownPay : Option FinalPay → ℕ
+ownPay none = 0
+ownPay (some f) = finalPay f
+
+-- "The 1995 pension is rounded(final pay × service days/29,200)"
+unfoldable pub pension1995 : Option FinalPay → ℕ → ℕ
+pension1995 none pay = 0
+pension1995 (some f) pay = sectionPension pay (f .days)
+
+-- ---- Reduction
+
+-- "for exactly that scheme and month"
+abbrev pub isFor : ℕ → ℕ → Factor → Bool
+isFor scheme months f = eqb (f .scheme) scheme && eqb (f .months .0) months
+
+-- the first of two that is there
+abbrev pub orElse : {A : Type 0} → Option A → Option A → Option A
+orElse none other = other
+orElse (some x) other = some x
+
+-- "the factors for exactly that scheme and month", of which 10 lets no second be kept
+unfoldable pub factorFor : ℕ → ℕ → List Factor → Option Factor
+factorFor scheme months [] = none
+factorFor scheme months (f ∷ fs) = orElse (factorFor scheme months fs) (cond (isFor scheme months f) (some f) none)
+
+-- "pension factor 2, lump factor 2, both in thousandths": the pension's
+abbrev pub pensionFactor : Option Factor → ℕ
+pensionFactor none = 0
+pensionFactor (some f) = f .pension
+
+-- the lump sum's
+abbrev pub lumpFactor : Option Factor → ℕ
+lumpFactor none = 0
+lumpFactor (some f) = f .lump
+
+-- "If months early is positive, pension and lump sum become rounded(amount × factor/1,000)"
+unfoldable pub reducedIf : ℕ → ℕ → ℕ → ℕ
+reducedIf months factor amount = cond (eqb months 0) amount (reduced amount factor)
+
+-- the factors for the 2015 Scheme at the member's months early
+abbrev pub factor2015 : Frames → Option Factor
+factor2015 k = factorFor 0 (early2015 (k .member)) (k .factors)
+
+-- for the 1995 Section
+abbrev pub factor1995 : Frames → Option Factor
+factor1995 k = factorFor 1 (early1995 (k .member)) (k .factors)
+
+-- the 2015 pension before its debit, of any parts
+unfoldable pub gross2015 : Frames → List (List ℕ) → ℕ
+gross2015 k qs = reducedIf (early2015 (k .member)) (pensionFactor (factor2015 k)) (pensionOf (k .years) qs)
+
+-- the 1995 pension before its debit, of any final pay; "without a section [..] the 1995 nets are 0"
+unfoldable pub gross1995 : Frames → ℕ → ℕ
+gross1995 k pay =
+    cond (hasSection k) (reducedIf (early1995 (k .member)) (pensionFactor (factor1995 k)) (pension1995 (k .finalPay) pay)) 0
+
+-- the lump sum before its debit
+unfoldable pub grossLumpSum : Frames → ℕ → ℕ
+grossLumpSum k pay =
+    cond (hasSection k) (reducedIf (early1995 (k .member)) (lumpFactor (factor1995 k)) (lumpSum (pension1995 (k .finalPay) pay))) 0
+
+-- ---- Debit
+
+-- the 06 of a scheme, of which 11 lets no second be kept
+unfoldable pub debitFor : ℕ → List Debit → Option Debit
+debitFor scheme [] = none
+debitFor scheme (d ∷ ds) = orElse (debitFor scheme ds) (cond (eqb (d .scheme) scheme) (some d) none)
+
+-- "Pension debit = rounded(pot × 100/factor in hundredths)"; "Without its 06 a debit is 0."
+unfoldable pub debitOf : Option Debit → ℕ
+debitOf none = 0
+debitOf (some d) = pensionDebit (d .pot .0) (d .factor)
+
+-- the debit of the 2015 pension
+unfoldable pub debit2015 : Frames → ℕ
+debit2015 k = debitOf (debitFor 0 (k .debits))
+
+-- the debit of the 1995 pension; without a section "the 1995 nets are 0"
+unfoldable pub debit1995 : Frames → ℕ
+debit1995 k = cond (hasSection k) (debitOf (debitFor 1 (k .debits))) 0
+
+-- ---- Charge
+
+-- the employer's charge, 0 without an 04
+unfoldable pub chargeOf : Option FinalPay → ℕ
+chargeOf none = 0
+chargeOf (some f) = charge f
+
+-- ---- Closing
+
+-- "12, section 1 without 04"
+unfoldable pub payThere : Frames → Bool
+payThere k = not (hasSection k) || given (k .finalPay)
+
+-- "13, months early positive without that factor (even for a pension of 0)"
+abbrev pub factorThere : ℕ → Option Factor → Bool
+factorThere months factor = eqb months 0 || given factor
+
+-- "the 2015 Scheme first, scheme 1 only where the member has a section"
+unfoldable pub factorsThere : Frames → Bool
+factorsThere k =
+    factorThere (early2015 (k .member)) (factor2015 k)
+    && (not (hasSection k) || factorThere (early1995 (k .member)) (factor1995 k))
+
+-- "14, a debit above what it is taken from"
+unfoldable pub debitsFit : Frames → Bool
+debitsFit k =
+    leb (debit2015 k) (gross2015 k (ownParts (k .years)))
+    && leb (debit1995 k) (gross1995 k (ownPay (k .finalPay)))
+    && leb (lumpDebit (debit1995 k)) (grossLumpSum k (ownPay (k .finalPay)))
+
+-- "closing for 4 (no 01), 12, 13, 14": the refusal, 0 for none
+unfoldable pub closingOf : Kept → ℕ
+closingOf nothing = 4
+closingOf (begun k) = first (unless (payThere k) 12) (first (unless (factorsThere k) 13) (unless (debitsFit k) 14))
+
+-- ---- The amounts given
+
+-- "Net = reduced less debit."
+unfoldable pub amountsOf : Frames → Amounts
+amountsOf k =
+    record {
+      «net_2015» = record { 0 = gross2015 k (ownParts (k .years)) - debit2015 k };
+      «net_1995» = record { 0 = gross1995 k (ownPay (k .finalPay)) - debit1995 k };
+      «net_lump_sum» = record { 0 = grossLumpSum k (ownPay (k .finalPay)) - lumpDebit (debit1995 k) };
+      charge = record { 0 = chargeOf (k .finalPay) };
+    }
+
+-- the worked case, or the refusal: "At the end, line 0"
+unfoldable pub workedUnless : ℕ → Amounts → Outcome
+workedUnless refusal amounts = cond (eqb refusal 0) (Outcome.Worked amounts) (Outcome.Refused (record { number = refusal; line = 0 }))
+
+-- what the frames kept come to
+unfoldable pub answerOf : Kept → Outcome
+answerOf nothing = Outcome.Refused (record { number = 4; line = 0 })
+answerOf (begun k) = workedUnless (closingOf (begun k)) (amountsOf k)
+
+-- ---- An outcome in the numbers of the paper
+
+-- the refusal, 0 for none
+unfoldable pub numberOf : Outcome → ℕ
+numberOf (Outcome.Worked amounts) = 0
+numberOf (Outcome.Refused refusal) = refusal .number
+
+-- its line, "0 for no line"
+unfoldable pub lineOf : Outcome → ℕ
+lineOf (Outcome.Worked amounts) = 0
+lineOf (Outcome.Refused refusal) = refusal .line
+
+-- the amounts; refused, "All amounts 0."
+unfoldable pub amountsGiven : Outcome → Amounts
+amountsGiven (Outcome.Worked amounts) = amounts
+amountsGiven (Outcome.Refused refusal) =
+    record { «net_2015» = record { 0 = 0 }; «net_1995» = record { 0 = 0 }; «net_lump_sum» = record { 0 = 0 }; charge = record { 0 = 0 } }

@@ -1,0 +1,22 @@
+// Document 01's rules over the frames kept of one member, and what a case comes to.
+use measures::Pence;
+
+// The amounts of a worked case.
+pub struct Amounts {
+    pub net_2015: Pence,
+    pub net_1995: Pence,
+    pub net_lump_sum: Pence,
+    pub charge: Pence,
+}
+
+// A refusal: its number, and the line of a text, 0 for no line.
+pub struct Refusal {
+    pub number: u64,
+    pub line: u64,
+}
+
+// What a case comes to.
+pub enum Outcome {
+    Worked(Amounts),
+    Refused(Refusal),
+}
