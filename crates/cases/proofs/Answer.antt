@@ -7,7 +7,7 @@ use lib.Dec.{eqb}
 use Rattle.measures.specs.Rounding.{rounded}
 use Rattle.measures.specs.Refusals.{unless, first}
 use Rattle.benefits.specs.declared.FinalPay.{FinalPay}
-use Rattle.benefits.specs.Steps.{finalPay, finalYear, sectionPension, lumpDebit, controlled, raised, allowed3, allowed2, allowed1, allowedIn, excess, excessPension, chargeFrom, charge}
+use Rattle.benefits.specs.Steps.{finalPay, finalYear, sectionPension, lumpDebit, controlled, raised, allowedFrom, allowed3, allowed2, allowed1, allowedIn, excess, excessPension, chargeFrom, charge}
 use Rattle.frames.specs.declared.Factor.{Factor}
 use Rattle.rules.specs.declared.Amounts.{Amounts}
 use Rattle.rules.specs.declared.Outcome.{Outcome}
@@ -38,7 +38,7 @@ section-pension none = refl
 section-pension (some f) = refl
 
 charge-is : (o : Option FinalPay) → charge (payOf o) ≡ chargeOf o
-unfolding chargeOf charge chargeFrom excessPension sectionPension excess allowedIn allowed3 allowed2 allowed1 raised controlled finalYear finalPay rounded
+unfolding chargeOf charge chargeFrom excessPension sectionPension excess allowedIn allowedFrom allowed3 allowed2 allowed1 raised controlled finalYear finalPay rounded
 charge-is none = refl
 charge-is (some f) = refl
 

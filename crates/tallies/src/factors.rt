@@ -10,7 +10,7 @@ use frames::Member;
 use measures::Months;
 ghost use mathlib.Core.Path.{_≡_};
 ghost use Prim.Native.Nat.{_≤_};
-ghost use Rattle.calendar.specs.Dates.{Accepted};
+ghost use Rattle.calendar.specs.Ranges.{Accepted};
 ghost use Rattle.frames.specs.Limits.{memberRefusal};
 ghost use Rattle.rules.specs.Working.{early};
 ghost use Rattle.tallies.specs.Taking.{pastPlace, datedFor, foundBy, datedBy};
