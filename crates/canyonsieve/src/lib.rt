@@ -19,7 +19,7 @@ ghost use Rattle.posts.specs.Posts.{aggregatePay};
 ghost use Rattle.posts.specs.Call.{postsIn, callRefusal, placesAfter};
 ghost use Rattle.benefits.specs.Steps.{finalPayRefusal, charge, abatementRefusal, abatement};
 ghost use Rattle.rules.specs.Rules.{kept};
-ghost use Rattle.rules.specs.Working.{numberOf, lineOf, amountsGiven};
+ghost use Rattle.rules.specs.Working.{amountsGiven};
 ghost use Rattle.rules.specs.Rivals.{Largest};
 ghost use Rattle.texts.specs.Text.{framesOf, workText};
 ghost use Rattle.canyonsieve.specs.Results.{finalPayOf, Flat};

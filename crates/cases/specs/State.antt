@@ -41,6 +41,7 @@ start =
 
 -- ---- the refusal of a frame
 
+-- by the kind of frame, from what the case holds
 unfoldable pub caseRefusal : Case → Frame → ℕ
 caseRefusal c (Frame.Member m) = memberOrder (c .stage) m
 caseRefusal c (Frame.Year y) = yearOrder (c .stage) (c .service) y
@@ -51,6 +52,7 @@ caseRefusal c (Frame.Debit d) = debitOrder (c .stage) (c .member .section) (c .d
 
 -- ---- the case advanced by a frame
 
+-- by an 01: the member, and the months early of each scheme
 unfoldable pub withMember : Case → Member → Case
 withMember c m =
     record { stage = 1; member = m; service = c .service; posts = c .posts; given = c .given; pay = c .pay; previous = c .previous; dated = datedFor m; debits = c .debits }
@@ -59,26 +61,32 @@ withMember c m =
 unfoldable pub pensionNow : Case → ℕ
 pensionNow c = pensionWith (c .service) (aggregatePay (postsOf (c .posts)))
 
+-- by an 02: the year that was open is counted, and a year without posts is open
 unfoldable pub withYear : Case → Year → Case
 withYear c y =
     record { stage = 2; member = c .member; service = record { years = c .service .years + 1; april = y .april; revaluation = y .revaluation; pension = record { 0 = pensionNow c } }; posts = noPosts; given = c .given; pay = c .pay; previous = c .previous; dated = c .dated; debits = c .debits }
 
+-- by an 03: the post joins the year that is open
 unfoldable pub withPost : Case → Post → Case
 withPost c x =
     record { stage = 2; member = c .member; service = c .service; posts = joinedBy (c .posts) x; given = c .given; pay = c .pay; previous = c .previous; dated = c .dated; debits = c .debits }
 
+-- by an 04
 unfoldable pub withPay : Case → FinalPay → Case
 withPay c f =
     record { stage = 3; member = c .member; service = c .service; posts = c .posts; given = true; pay = f; previous = c .previous; dated = c .dated; debits = c .debits }
 
+-- by an 05: it is the previous one, and is found where it is for exactly the months early
 unfoldable pub withFactor : Case → Factor → Case
 withFactor c f =
     record { stage = 4; member = c .member; service = c .service; posts = c .posts; given = c .given; pay = c .pay; previous = record { scheme = f .scheme; months = f .months }; dated = datedBy (c .dated) f; debits = c .debits }
 
+-- by an 06: the debit of its scheme
 unfoldable pub withDebit : Case → Debit → Case
 withDebit c d =
     record { stage = 5; member = c .member; service = c .service; posts = c .posts; given = c .given; pay = c .pay; previous = c .previous; dated = c .dated; debits = record { scheme = d .scheme; pension2015 = debitBy (c .debits .pension2015) 0 d; pension1995 = debitBy (c .debits .pension1995) 1 d } }
 
+-- by a frame of any of the six kinds
 unfoldable pub caseNext : Case → Frame → Case
 caseNext c (Frame.Member m) = withMember c m
 caseNext c (Frame.Year y) = withYear c y
@@ -116,6 +124,7 @@ afterAll ds = after refusalOfCase nextOfCase start ds
 abbrev pub refusalAtEnd : Case → ℕ
 refusalAtEnd c = openRefusal (c .stage) (c .member .section) (c .given) (c .dated)
 
+-- the refusal, or the nets
 unfoldable pub outcomeOf : Case → Outcome
 outcomeOf c =
     cond (eqb (refusalAtEnd c) 0)

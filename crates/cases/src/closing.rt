@@ -29,8 +29,8 @@ impl Case {
             });
         }
         let pension = pension_with(self.service, self.posts);
-        let gross = gross(section, self.dated, self.pay, pension);
-        net(gross, debit_sums(section, self.debits), charge(self.pay))
+        let amounts = gross(section, self.dated, self.pay, pension);
+        net(amounts, debit_sums(section, self.debits), charge(self.pay))
     }
 
     // The amounts that the frames come to, or the refusal of the closing.

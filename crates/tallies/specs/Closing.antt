@@ -14,6 +14,7 @@ use Rattle.tallies.specs.declared.Sums.{Sums}
 
 -- ---- the refusals before the debits
 
+-- the factor that months early want, where they are positive
 abbrev pub wantedFound : ℕ → Found → Bool
 wantedFound months f = eqb months 0 || f .found
 
@@ -29,6 +30,7 @@ openRefusal stage section given d =
 
 -- ---- the amounts before the debits, and the debits
 
+-- the 1995 pension before any reduction
 unfoldable pub pension1995Of : FinalPay → ℕ
 pension1995Of f = sectionPension (finalPay f) (f .days)
 
@@ -41,6 +43,7 @@ grossOf section d f pension =
       lump = record { 0 = cond (eqb section 1) (reducedIf (d .early1995 .0) (d .factor1995 .lump) (lumpSum (pension1995Of f))) 0 };
     }
 
+-- the 2015 debit, and with a section the 1995 debit and its lump sum
 unfoldable pub debitsOf : ℕ → Debits → Sums
 debitsOf section s =
     record {
@@ -51,9 +54,11 @@ debitsOf section s =
 
 -- ---- the nets, or 14
 
+-- each debit is at most what it is taken from
 abbrev pub covered : Sums → Sums → Bool
 covered g d = leb (d .pension2015 .0) (g .pension2015 .0) && leb (d .pension1995 .0) (g .pension1995 .0) && leb (d .lump .0) (g .lump .0)
 
+-- each amount less its debit
 unfoldable pub netOf : Sums → Sums → ℕ → Outcome
 netOf g d charge =
     workedUnless (unless (covered g d) 14)

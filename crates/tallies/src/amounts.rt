@@ -43,9 +43,7 @@ pub fn gross(section: u64, dated: Dated, pay: FinalPay, pension: Pence) -> Sums
     requires { ⌜ DatedBounds dated × FinalPayBounds pay × (pension .0 ≤ 2 ^ 50) ⌝ }
     ensures { λ r. ⌜ r ≡ grossOf section dated pay (pension .0) ⌝ }
 {
-    let factor2015 = dated.factor2015;
-    let factor1995 = dated.factor1995;
-    let pension2015 = reduced_if(dated.early2015, factor2015.pension, pension);
+    let pension2015 = reduced_if(dated.early2015, dated.factor2015.pension, pension);
     if section != 1 {
         return Sums {
             pension2015,
@@ -53,9 +51,9 @@ pub fn gross(section: u64, dated: Dated, pay: FinalPay, pension: Pence) -> Sums
             lump: Pence(0),
         };
     }
-    let whole = pension_1995(pay);
-    let pension1995 = reduced_if(dated.early1995, factor1995.pension, whole);
-    let lump = reduced_if(dated.early1995, factor1995.lump, lump_sum(whole));
+    let unreduced = pension_1995(pay);
+    let pension1995 = reduced_if(dated.early1995, dated.factor1995.pension, unreduced);
+    let lump = reduced_if(dated.early1995, dated.factor1995.lump, lump_sum(unreduced));
     Sums {
         pension2015,
         pension1995,

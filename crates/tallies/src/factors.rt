@@ -24,9 +24,7 @@ fn wanted_months(m: Member, pension_age: u64) -> Months
     requires { ⌜ (Accepted (m .birth) (m .retirement)) × (55 ≤ «pension_age») × («pension_age» ≤ 75) ⌝ }
     ensures { λ r. ⌜ r .0 ≡ early m «pension_age» ⌝ }
 {
-    let birth = m.birth;
-    let retirement = m.retirement;
-    let months = months_early(birth, retirement, pension_age);
+    let months = months_early(m.birth, m.retirement, pension_age);
     match months {
         MonthsEarly::Early(early) => early,
         MonthsEarly::Late(_) => Months(0),
@@ -86,10 +84,8 @@ pub fn dated_by(d: Dated, f: Factor) -> Dated
 {
     let early2015 = d.early2015;
     let early1995 = d.early1995;
-    let before2015 = d.factor2015;
-    let before1995 = d.factor1995;
-    let factor2015 = found_by(before2015, 0, early2015, f);
-    let factor1995 = found_by(before1995, 1, early1995, f);
+    let factor2015 = found_by(d.factor2015, 0, early2015, f);
+    let factor1995 = found_by(d.factor1995, 1, early1995, f);
     Dated {
         early2015,
         early1995,
@@ -112,13 +108,11 @@ fn wanted_found(months: Months, factor: Found) -> bool
 pub fn wanted_there(section: u64, dated: Dated) -> bool
     ensures { λ r. ⌜ r ≡ wantedThere section dated ⌝ }
 {
-    let factor2015 = dated.factor2015;
-    let factor1995 = dated.factor1995;
-    if !wanted_found(dated.early2015, factor2015) {
+    if !wanted_found(dated.early2015, dated.factor2015) {
         return false;
     }
     if section != 1 {
         return true;
     }
-    wanted_found(dated.early1995, factor1995)
+    wanted_found(dated.early1995, dated.factor1995)
 }

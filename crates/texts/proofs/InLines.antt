@@ -1,6 +1,6 @@
 -- The reading of a text from the middle of a line on: what the rest of the text gives, where the line so far has spelled some bytes and perhaps the first
 -- digit of the next. A law for each thing that can come next.
-use Prim.Native.Nat.{ℕ, suc, _+_, _-_, _*_, _≤_, _<_}
+use Prim.Native.Nat.{ℕ, _+_, _-_, _*_, _≤_, _<_}
 use mathlib.Core.Path.{_≡_, refl, sym, ap, _∙_}
 use mathlib.Core.List.{List, [], _∷_, _++_, append-assoc, append-nil}
 use mathlib.Core.Bool.{Bool, true, false, cond}
@@ -17,8 +17,7 @@ use Rattle.frames.specs.declared.Decoded.{Decoded}
 use Rattle.frames.specs.Frames.{frameLength, kindOf, decoded}
 use Rattle.frames.proofs.Bytes.{decoded-three}
 use Rattle.rules.specs.declared.Outcome.{Outcome}
-use Rattle.rules.specs.Rules.{Kept, nothing, refusalOfDecoded, keepDecoded, kept}
-use Rattle.rules.specs.Working.{answerOf}
+use Rattle.rules.specs.Rules.{Kept, nothing, refusalOfDecoded, kept}
 use Rattle.cases.specs.declared.Case.{Case}
 use Rattle.cases.specs.declared.Taken.{Taken}
 use Rattle.cases.specs.State.{afterAll}

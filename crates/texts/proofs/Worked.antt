@@ -1,14 +1,13 @@
 -- Demand 3 for texts, by that of the running case; and a text beside the running case that is given its frames one by one.
 use Prim.Native.Nat.{ℕ, _+_}
-use mathlib.Core.Path.{_≡_, refl, sym, _∙_, ap}
-use mathlib.Core.List.{List, [], _∷_, _++_}
+use mathlib.Core.Path.{_≡_, refl, sym, _∙_}
+use mathlib.Core.List.{List, [], _∷_}
 use mathlib.Core.Bool.{Bool, true, false, cond}
 use native.Mathlib.Omega.{arith}
 use lib.Dec.{ltb, eqb}
 use lib.ListN.{length}
 use borrow.Author.Tests.{eqb-true, eqb-false}
 use Rattle.measures.specs.Tries.{tried, after, Unrefused, done, more}
-use Rattle.measures.proofs.Trying.{after-join}
 use Rattle.frames.specs.declared.Decoded.{Decoded}
 use Rattle.rules.specs.declared.Amounts.{Amounts}
 use Rattle.rules.specs.declared.Refusal.{Refusal}
@@ -16,11 +15,7 @@ use Rattle.rules.specs.declared.Outcome.{Outcome}
 use Rattle.rules.specs.Rules.{Kept, nothing, begun, refusalOfDecoded, keepDecoded, kept}
 use Rattle.rules.specs.Working.{closingOf, amountsOf, workedUnless, answerOf, numberOf, amountsGiven}
 use Rattle.rules.specs.Rivals.{Largest}
-use Rattle.cases.specs.declared.Case.{Case}
-use Rattle.cases.specs.State.{refusalOfCase, nextOfCase, afterAll, outcomeOf}
-use Rattle.cases.proofs.Represents.{Represents}
-use Rattle.cases.proofs.Bridge.{represents, refusal-agrees, after-one-more}
-use Rattle.cases.proofs.Answer.{closing-agrees}
+use Rattle.cases.specs.State.{afterAll, outcomeOf}
 use Rattle.cases.proofs.Contracts.{largest-decoded, answer-running}
 use Rattle.texts.specs.Text.{framesOf, readFrom, workText, TextWorked}
 

@@ -4,7 +4,6 @@ use Rattle.rules.specs.declared.Outcome.{Outcome}
 use Rattle.texts.proofs.Worked.{largest-given}
 use Rattle.canyonsieve.specs.Results.{Flat}
 use borrow.Author.Needs.{needs}
-use native.Mathlib.Omega.{arith}
 use Rattle.canyonsieve.proofs.canyonsieve_case.Statement.{statement}
 use Rattle.canyonsieve.proofs.canyonsieve_case.Tie as tie
 

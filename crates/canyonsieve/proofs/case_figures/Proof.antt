@@ -2,7 +2,6 @@
 use mathlib.Core.Path.{refl}
 use Rattle.rules.specs.Working.{numberOf, lineOf, amountsGiven}
 use borrow.Author.Needs.{needs}
-use native.Mathlib.Omega.{arith}
 use Rattle.canyonsieve.proofs.case_figures.Statement.{statement}
 use Rattle.canyonsieve.proofs.case_figures.Tie as tie
 

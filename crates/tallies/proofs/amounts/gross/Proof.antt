@@ -21,15 +21,15 @@ pension-1995-requires c κs = search needs
 
 reduced-if-requires-2 : tie.Need-reduced-if-requires-2
 reduced-if-requires-2 c κs =
-    let s = c .before .before .before .before .before in
+    let s = c .before .before .before in
     omega (arith, pension1995-limit _ (s .pre .1))
 
 lump-sum-requires : tie.Need-lump-sum-requires
-lump-sum-requires c κs = omega (arith, pension1995-limit _ (c .before .before .before .before .before .before .pre .1))
+lump-sum-requires c κs = omega (arith, pension1995-limit _ (c .before .before .before .before .pre .1))
 
 reduced-if-requires-3 : tie.Need-reduced-if-requires-3
 reduced-if-requires-3 c κs =
-    let s = c .before .before .before .before .before .before .before in
+    let s = c .before .before .before .before .before in
     omega (arith, ap lumpSum (c .before .before .pension-1995 .ensures), lump1995-limit _ (s .pre .1))
 
 returns-2 : tie.Need-returns-2
