@@ -81,8 +81,9 @@ bench: library
 	$(AR) rcs target/bench/libdecoder.a target/bench/decoder.o
 	CANYONSIEVE_DECODER_DIR=$(CURDIR)/target/bench $(CARGO) run --release --offline --locked --manifest-path bench/Cargo.toml
 
-# What crates/running/stdout must hold, worked from document 01 in exact fractions.
+# What crates/running/stdout must hold, worked from document 01 in exact fractions, and the script for it.
 oracle:
+	python3 tests/running_oracle.py script | cmp - crates/running/stdin
 	python3 tests/running_oracle.py | cmp - crates/running/stdout
 
 clean:

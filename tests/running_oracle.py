@@ -1,14 +1,16 @@
-"""What the program `running` must write, worked from document 01 alone.
+"""What the program `running` must write, worked from document 01 alone, and the script it reads.
 
 The rules below are written from the document in exact fractions. Frames are raw bytes, and are
-read here by a decoder of this file's own. The groups at the end offer the same frames in the same
-order as crates/running/src; the output is compared with crates/running/stdout.
+read here by a decoder of this file's own. The groups at the end have the labels and the frames.
+Without an argument they are worked here, and the output is crates/running/stdout. With the
+argument `script` they are printed as commands, and the output is crates/running/stdin.
 """
 
 from datetime import date
 from fractions import Fraction
 from math import floor
 from struct import pack, unpack
+from sys import argv
 
 # ---- frames, by the widths of "Frames"
 
@@ -285,31 +287,59 @@ class Case:
 # ---- lines
 
 
+class Script:
+    """In place of a case: its frames and its closing as commands of the script."""
+
+    def __init__(self):
+        print()
+
+    def offer(self, label, frames):
+        print(f"F {label}|" + " ".join(frame.hex().upper() or "-" for frame in frames))
+
+    def close(self, label):
+        print(f"C {label}")
+
+
+class Worked:
+    """A case whose refusals and amounts are printed."""
+
+    def __init__(self):
+        self.case = Case()
+
+    def offer(self, label, frames):
+        print(label, *(self.case.take(frame) for frame in frames))
+
+    def close(self, label):
+        given = self.case.close()
+        if isinstance(given, int):
+            print(f"{label}: refusal {given}, line 0")
+        else:
+            print("%s: net 2015 %d, net 1995 %d, lump sum %d, charge %d pence" % (label, *given))
+
+
+start = Script if argv[1:] == ["script"] else Worked
+
+
 def offer(c, label, frame):
-    print(f"{label}: refusal {c.take(frame)}")
+    c.offer(f"{label}: refusal", [frame])
     return c
 
 
 def repeat(c, label, frame, n):
-    print(f"{label}: refusals", *(c.take(frame) for _ in range(n)))
-    return c
+    return offers(c, label, *[frame] * n)
 
 
 def offers(c, label, *frames):
-    print(f"{label}: refusals", *(c.take(frame) for frame in frames))
+    c.offer(f"{label}: refusals", frames)
     return c
 
 
 def close(c, label):
-    given = c.close()
-    if isinstance(given, int):
-        print(f"{label}: refusal {given}, line 0")
-    else:
-        print("%s: net 2015 %d, net 1995 %d, lump sum %d, charge %d pence" % (label, *given))
+    c.close(label)
 
 
 def alone(label, frame):
-    close(offer(Case(), label, frame), "closed")
+    close(offer(start(), label, frame), "closed")
 
 
 # ---- frames of several groups
@@ -360,8 +390,7 @@ def last_day(label, month, day):
 
 def largest_years(c):
     for april in range(2015, 2065):
-        first = c.take(year(april, 2000))
-        print(f"{april}: refusals", first, *(c.take(MOST_POST) for _ in range(16)))
+        c = offers(c, str(april), year(april, 2000), *[MOST_POST] * 16)
     return c
 
 
@@ -409,7 +438,7 @@ def later_kinds(c):
 
 # A case whose only kept frames are those of the printed example.
 def kinds():
-    c = Case()
+    c = start()
     c = without_member(c)
     close(c, "closed without a kept frame")
     c = with_member(c)
@@ -422,7 +451,7 @@ def kinds():
 
 # Each kind without an 01; then an 01 that is refused.
 def no_member():
-    c = Case()
+    c = start()
     close(c, "no frame, closed")
     c = offers(
         c,
@@ -478,7 +507,7 @@ def after_debit(c):
 
 # Each kind after each later one.
 def all_kinds():
-    c = Case()
+    c = start()
     c = first_frames(c)
     c = after_pay(c)
     c = after_factor(c)
@@ -488,7 +517,7 @@ def all_kinds():
 
 # 04 without section is 4, not 9.
 def no_section():
-    c = Case()
+    c = start()
     c = offers(
         c,
         "01 without section; 04 without section; 04 past its limits without section; 02; 03; "
@@ -500,14 +529,14 @@ def no_section():
 
 # An 05 or an 06 may come without the kinds before it, which are then too late.
 def skipped():
-    c = Case()
+    c = start()
     c = offers(
         c,
         "01 with section; 05 at once; 04 after it",
         SECTION_MEMBER, FACTOR, PAY,
     )
     close(c, "05 at once, closed")
-    c = Case()
+    c = start()
     c = offers(
         c,
         "01 without section; 06 at once, pot 0; 02 after it; 03 after it; 05 after it",
@@ -578,7 +607,7 @@ def other_fields(c):
 
 # All of them leave the case without a frame; an 01 after them is taken.
 def refused():
-    c = Case()
+    c = start()
     c = birth(c)
     c = retirement(c)
     c = month_ends(c)
@@ -621,7 +650,7 @@ def last_days():
 
 # Three years from 2015 on.
 def april_years():
-    c = Case()
+    c = start()
     c = offers(
         c,
         "01; 02 of 2014; 02 of 2101; 02 of year 0; 02 of 65,535; revaluation 2,001; "
@@ -641,7 +670,7 @@ def april_years():
 
 # The post after the refused 02 joins 2100.
 def last_april_year():
-    c = Case()
+    c = start()
     c = offers(
         c,
         "01; 02 of 2099; 03; 02 of 2100; 02 of 2101; 03",
@@ -678,7 +707,7 @@ def whole_time(c):
 
 # Two years, each with a whole-time post.
 def year_posts():
-    c = Case()
+    c = start()
     c = offers(
         c,
         "01; 2015",
@@ -691,7 +720,7 @@ def year_posts():
 
 # A 17th post is 7, whole-time or not.
 def sixteen_posts():
-    c = Case()
+    c = start()
     c = offers(
         c,
         "01; 2015",
@@ -708,7 +737,7 @@ def sixteen_posts():
 
 # A whole-time post among the sixteen.
 def sixteen_with_whole_time():
-    c = Case()
+    c = start()
     c = offers(
         c,
         "01; 2016; whole-time post",
@@ -724,7 +753,7 @@ def sixteen_with_whole_time():
 
 # The most of each field is kept.
 def most_pay():
-    c = Case()
+    c = start()
     c = offer(c, "01", SECTION_MEMBER)
     c = offers(
         c,
@@ -749,14 +778,14 @@ def most_pay():
 
 # The least of each field, and the largest charge.
 def least_pay():
-    c = Case()
+    c = start()
     c = offers(
         c,
         "01; 04 of noughts, factor 1",
         SECTION_MEMBER, LEAST_PAY,
     )
     close(c, "04 of noughts, closed")
-    c = Case()
+    c = start()
     c = offers(
         c,
         "01; nothing allowed",
@@ -796,7 +825,7 @@ def factor_places(c):
 
 # Only the factor for exactly 53 months reduces.
 def factors_2015():
-    c = Case()
+    c = start()
     c = offers(
         c,
         "01, 53 months early; 02; 03",
@@ -832,7 +861,7 @@ def scheme_places(c):
 
 # 2 and 52 months are not 53; the two factors of the 1995 Section are apart.
 def factors_1995():
-    c = Case()
+    c = start()
     c = offers(
         c,
         "01, 53 months early, with section; 04",
@@ -854,7 +883,7 @@ def factors_1995():
 
 # Without section. A pot of 0 against no pension passes.
 def debits_2015():
-    c = Case()
+    c = start()
     c = offers(
         c,
         "01; scheme 2; scheme 255; scheme 1 without section; pot 1,000,000,001; "
@@ -868,7 +897,7 @@ def debits_2015():
 
 # The largest pot and factor.
 def most_pot():
-    c = Case()
+    c = start()
     c = offers(
         c,
         "01; 02; 03 of the highest pay; pot 1,000,000,000, factor 65,535; scheme 0 again",
@@ -880,7 +909,7 @@ def most_pot():
 
 # With a section: document 01's debit.
 def debits_1995():
-    c = Case()
+    c = start()
     c = offers(
         c,
         "01 with section; 04; scheme 2; scheme 1, factor 0; scheme 1, pot 1,000,000,001; "
@@ -902,7 +931,7 @@ def no_final_pay():
 
 # 13 is given for a pension of 0 too, and only by the factor for exactly those months.
 def missing_2015():
-    c = Case()
+    c = start()
     c = offer(c, "01, 53 months early", EARLY_MEMBER)
     close(c, "early without year or factor")
     c = offers(
@@ -911,7 +940,7 @@ def missing_2015():
         factor(0, 52, 900, 0), factor(0, 54, 900, 0),
     )
     close(c, "early with the factors of the months around")
-    c = Case()
+    c = start()
     c = offers(
         c,
         "01, 53 months early; 05 for 53 months",
@@ -922,14 +951,14 @@ def missing_2015():
 
 # The 2015 factor alone, and the 1995 factor alone.
 def missing_1995():
-    c = Case()
+    c = start()
     c = offers(
         c,
         "01, 53 months early, with section; 04; 05 of scheme 0",
         EARLY_SECTION_MEMBER, PAY, FACTOR,
     )
     close(c, "the 1995 factor missing")
-    c = Case()
+    c = start()
     c = offers(
         c,
         "01, 53 months early, with section; 04; 05 of scheme 1",
@@ -941,7 +970,7 @@ def missing_1995():
 # Early in the 1995 Section only: out at 57, pension age 55. Without section that is not early.
 def early_1995():
     alone("36 months early for 60, without section", member((1970, 4, 1), (2027, 4, 1), 0, 55))
-    c = Case()
+    c = start()
     c = offers(
         c,
         "36 months early for 60, with section; 04",
@@ -954,7 +983,7 @@ def early_1995():
 
 # Early in the 2015 Scheme only: out at 62, pension age 67.
 def early_2015():
-    c = Case()
+    c = start()
     c = offers(
         c,
         "60 months early for 67, with section; 04; 05 of scheme 0; "
@@ -967,14 +996,14 @@ def early_2015():
 
 # No factor can be given for more than 600 months.
 def most_early():
-    c = Case()
+    c = start()
     c = offers(
         c,
         "600 months early; 05 for 600 months",
         member((1970, 4, 1), (1995, 4, 1), 0, 75), factor(0, 600, 100, 0),
     )
     close(c, "600 months early with its factor")
-    c = Case()
+    c = start()
     c = offers(
         c,
         "601 months early; 05 for 600 months; 05 for 601 months",
@@ -986,7 +1015,7 @@ def most_early():
 
 # In the 1995 Section: pension age 55 wants 600 months, 60 wants 660.
 def most_early_1995():
-    c = Case()
+    c = start()
     c = offers(
         c,
         "600 and 660 months early; 04; 05 of scheme 0 for 600 months; "
@@ -999,7 +1028,7 @@ def most_early_1995():
 
 # A day short of the month counts as the month before.
 def days_short():
-    c = Case()
+    c = start()
     c = offers(
         c,
         "a day short of 60; 02; 03",
@@ -1012,7 +1041,7 @@ def days_short():
 
 # Late retirement needs no factor and uses none: 1 month late, with a factor for 1 month.
 def late():
-    c = Case()
+    c = start()
     c = offers(
         c,
         "01, 1 month late; 02; 03",
@@ -1025,7 +1054,7 @@ def late():
 
 # A debit of the 2015 Scheme, whose pension is 1,000.00.
 def debit_2015(pot_label, pot):
-    c = Case()
+    c = start()
     c = offers(
         c,
         "01; 02; 03",
@@ -1037,7 +1066,7 @@ def debit_2015(pot_label, pot):
 
 # The same after a reduction to 800.00.
 def debit_reduced(pot_label, pot):
-    c = Case()
+    c = start()
     c = offers(
         c,
         "01, 53 months early; 02; 03; 05",
@@ -1049,7 +1078,7 @@ def debit_reduced(pot_label, pot):
 
 # A debit of the 1995 Section, whose pension is 10,000.00 and lump sum 30,000.00.
 def debit_1995(pot_label, pot):
-    c = Case()
+    c = start()
     c = offers(
         c,
         "01 with section; 04",
@@ -1061,7 +1090,7 @@ def debit_1995(pot_label, pot):
 
 # The same after a reduction of one of the two.
 def debit_after(factor_label, factors, pot_label, pot):
-    c = Case()
+    c = start()
     c = offers(
         c,
         "01, 53 months early, with section; 04; 05 of scheme 0",
@@ -1092,14 +1121,14 @@ def debits_above_reduced():
 
 # 13 before 14, and a debit against no pension.
 def debits_last():
-    c = Case()
+    c = start()
     c = offers(
         c,
         "01, 53 months early; 06 without a pension",
         EARLY_MEMBER, DEBIT,
     )
     close(c, "early, and a debit above the pension")
-    c = Case()
+    c = start()
     c = offers(
         c,
         "01; 06 without a pension",
@@ -1113,7 +1142,7 @@ def debits_last():
 
 # Document 01's printed input.
 def printed_example():
-    c = Case()
+    c = start()
     c = offers(
         c,
         "01; 02; 03; 03",
@@ -1124,7 +1153,7 @@ def printed_example():
 
 # A refused 02 opens no year: the post after it joins the year before.
 def refused_year():
-    c = Case()
+    c = start()
     c = offers(
         c,
         "01; 02 of 2015; 03; 02 of 2017, refused; 03 of 2015",
@@ -1141,7 +1170,7 @@ def refused_year():
 
 # A case of every kind: 53 months early, a section, both factors, both debits, a charge.
 def full():
-    c = Case()
+    c = start()
     c = offers(
         c,
         "01; 02; 03; 04; 05 of scheme 0; 05 of scheme 1; 06 of scheme 0; 06 of scheme 1",
@@ -1152,7 +1181,7 @@ def full():
 
 # The same case with refused frames in between.
 def full_again():
-    c = Case()
+    c = start()
     c = offers(
         c,
         "01 of pension age 76; 01; 01 again; 02 of revaluation 2,001; 02; no bytes; 03; "
@@ -1172,7 +1201,7 @@ def full_again():
 
 # A case of an 01 with section and an 04.
 def final_pay_years(label, pays):
-    c = Case()
+    c = start()
     c = offer(c, "01 with section", SECTION_MEMBER)
     c = offer(c, label, pays)
     close(c, "closed")
@@ -1191,7 +1220,7 @@ def final_pays():
 
 # Amounts that round at each step.
 def odd_amounts():
-    c = Case()
+    c = start()
     c = offers(
         c,
         "01, 53 months early, with section; 2015; 03; 03 of a higher rate; 04; "
@@ -1205,7 +1234,7 @@ def odd_amounts():
 
 # Four years with their own revaluations; the second is cut, the third has no posts.
 def several_years():
-    c = Case()
+    c = start()
     c = offers(
         c,
         "01; 2015; 20 h, 10,000.00; 2016; 20 h of 37.5, 53,000.00; 19 h of 40, 47,500.00",
@@ -1223,7 +1252,7 @@ def several_years():
 
 # Halves of a penny go upward: 27/54, 5 x 1.1 and 135/54, 9 x 0.5.
 def halves():
-    c = Case()
+    c = start()
     c = offers(
         c,
         "01, 53 months early; 2015; 0.27; 2016; 2.16; 2017; 1.35; 05",
@@ -1235,7 +1264,7 @@ def halves():
 
 # Fifty years of sixteen posts, each at the most; a 51st year; the most of the 1995 Section.
 def largest():
-    c = Case()
+    c = start()
     c = offer(c, "01 with section", SECTION_MEMBER)
     c = largest_years(c)
     c = offers(

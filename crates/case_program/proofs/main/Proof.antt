@@ -7,11 +7,11 @@ use native.Mathlib.Omega.{arith}
 use Rattle.case_program.proofs.main.Statement.{statement}
 use Rattle.case_program.proofs.main.Tie as tie
 
-slice-aggregate-read-text : tie.Need-slice-aggregate-read-text
-slice-aggregate-read-text c = search needs
+slice-aggregate-read-input : tie.Need-slice-aggregate-read-input
+slice-aggregate-read-input c = search needs
 
-read-text-requires : tie.Need-read-text-requires
-read-text-requires c κs = search needs
+read-input-requires : tie.Need-read-input-requires
+read-input-requires c κs = search needs
 
 array-share-prefix-buffer : tie.Need-array-share-prefix-buffer
 array-share-prefix-buffer c = search needs
@@ -41,8 +41,8 @@ pub main-spec : {M : Type 1} → statement M
 main-spec =
     tie.close
     (tie.spec
-    slice-aggregate-read-text
-    read-text-requires
+    slice-aggregate-read-input
+    read-input-requires
     array-share-prefix-buffer
     slice-aggregate-work-text
     work-text-requires

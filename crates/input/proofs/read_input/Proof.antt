@@ -1,11 +1,11 @@
--- `case_program::read_text` meets its contract.
+-- `input::read_input` meets its contract.
 use mathlib.Core.Path.{_≡_}
 use Prim.Native.Nat.{_-_, _≤_}
 use lib.ListN.{length, length-set}
 use borrow.Author.Needs.{needs}
 use native.Mathlib.Omega.{arith}
-use Rattle.case_program.proofs.read_text.Statement.{statement}
-use Rattle.case_program.proofs.read_text.Tie as tie
+use Rattle.input.proofs.read_input.Statement.{statement}
+use Rattle.input.proofs.read_input.Tie as tie
 
 abbrev Inv-loop : tie.InvT-loop
 Inv-loop buffer₀ done₀ buffer done = (done ≤ length buffer) × (length buffer ≡ length buffer₀)
@@ -73,8 +73,8 @@ same-length-3 c = search needs
 returns-3 : tie.Need-returns-3 Inv-loop μ-loop
 returns-3 c = search needs
 
-pub read-text-spec : {M : Type 1} → statement M
-read-text-spec =
+pub read-input-spec : {M : Type 1} → statement M
+read-input-spec =
     tie.close
     (tie.spec
     Inv-loop

@@ -1,17 +1,20 @@
--- `running::lines::list_frames` hands back a case: each turn's is one, and fewer bytes are left at each turn.
+-- `running::lines::offer` hands back a case: each turn's is one, and fewer bytes are left at each turn.
 use Prim.Native.Nat.{_-_}
 use lib.ListN.{length}
-use borrow.Author.Needs.{needs}
 use native.Mathlib.Omega.{arith}
 use Rattle.cases.specs.Running.{IsCase}
-use Rattle.running.proofs.lines.list_frames.Statement.{statement}
-use Rattle.running.proofs.lines.list_frames.Tie as tie
+use borrow.Author.Needs.{needs}
+use Rattle.running.proofs.lines.offer.Statement.{statement}
+use Rattle.running.proofs.lines.offer.Tie as tie
 
 abbrev Inv-loop : tie.InvT-loop
-Inv-loop frames c₀ at₀ c at = IsCase c
+Inv-loop label frames c₀ at₀ t8 c at = IsCase c
 
 abbrev μ-loop : tie.MeasureT-loop
-μ-loop frames c₀ at₀ c at = length frames - at
+μ-loop label frames c₀ at₀ t8 c at = length frames - at
+
+write-all-requires : tie.Need-write-all-requires Inv-loop μ-loop
+write-all-requires c κs = search needs
 
 loop-holds : tie.Need-loop-holds Inv-loop μ-loop
 loop-holds c = search needs
@@ -19,14 +22,8 @@ loop-holds c = search needs
 add-start : tie.Need-add-start Inv-loop μ-loop
 add-start c = omega arith
 
-shared-slice-read-wide : tie.Need-shared-slice-read-wide Inv-loop μ-loop
-shared-slice-read-wide c = omega arith
-
-wide-requires : tie.Need-wide-requires Inv-loop μ-loop
-wide-requires c κs = search needs
-
-end-of-requires : tie.Need-end-of-requires Inv-loop μ-loop
-end-of-requires c κs = omega arith
+end-at-requires : tie.Need-end-at-requires Inv-loop μ-loop
+end-at-requires c κs = omega arith
 
 sub-list : tie.Need-sub-list Inv-loop μ-loop
 sub-list c = omega arith
@@ -46,24 +43,31 @@ loop-less c = omega arith
 loop-again : tie.Need-loop-again Inv-loop μ-loop
 loop-again c = search needs
 
+slice-aggregate-write-all : tie.Need-slice-aggregate-write-all Inv-loop μ-loop
+slice-aggregate-write-all c = search needs
+
+write-all-requires-2 : tie.Need-write-all-requires-2 Inv-loop μ-loop
+write-all-requires-2 c κs = search needs
+
 returns : tie.Need-returns Inv-loop μ-loop
 returns c = search needs
 
-pub list-frames-spec : {M : Type 1} → statement M
-list-frames-spec =
+pub offer-spec : {M : Type 1} → statement M
+offer-spec =
     tie.close
     (tie.spec
     Inv-loop
     μ-loop
+    write-all-requires
     loop-holds
     add-start
-    shared-slice-read-wide
-    wide-requires
-    end-of-requires
+    end-at-requires
     sub-list
     part-list-start
     part-list-end
     list-requires
     loop-less
     loop-again
+    slice-aggregate-write-all
+    write-all-requires-2
     returns)

@@ -1,0 +1,102 @@
+-- `input::script::bytes_in` meets its contract: what was put is spelled, and one place fewer is left at each turn.
+use Prim.Native.Nat.{ℕ, _-_, _≤_, _<_}
+use mathlib.Core.Bool.{true≢false}
+use mathlib.Core.Path.{_≡_, _∙_, sym}
+use lib.ListN.{length, length-set, getD}
+use native.Mathlib.Omega.{arith}
+use borrow.Author.Needs.{needs}
+use borrow.Author.Tests.{ltb-true, ltb-false}
+use Rattle.input.specs.Script.{Spells}
+use Rattle.input.proofs.Spelling.{one-more}
+use Rattle.input.proofs.script.bytes_in.Statement.{statement}
+use Rattle.input.proofs.script.bytes_in.Tie as tie
+
+abbrev Inv-loop : tie.InvT-loop
+Inv-loop text bytes₀ n₀ bytes n =
+    (length bytes ≡ length bytes₀) × (n ≤ length bytes) × ((k : ℕ) → k < n → Spells text k (getD bytes k 0))
+
+abbrev μ-loop : tie.MeasureT-loop
+μ-loop text bytes₀ n₀ bytes n = length bytes - n
+
+loop-holds : tie.Need-loop-holds Inv-loop μ-loop
+loop-holds c = (omega arith, omega arith, λ k l. absurd (omega arith))
+
+mul-x : tie.Need-mul-x Inv-loop μ-loop
+mul-x c = omega arith
+
+shared-slice-read-x : tie.Need-shared-slice-read-x Inv-loop μ-loop
+shared-slice-read-x c = omega (arith, ltb-true)
+
+mul-y : tie.Need-mul-y Inv-loop μ-loop
+mul-y c = omega arith
+
+add-y : tie.Need-add-y Inv-loop μ-loop
+add-y c = omega arith
+
+shared-slice-read-y : tie.Need-shared-slice-read-y Inv-loop μ-loop
+shared-slice-read-y c = omega (arith, ltb-true)
+
+are-digits-requires : tie.Need-are-digits-requires Inv-loop μ-loop
+are-digits-requires c κs = search needs
+
+byte-of-requires : tie.Need-byte-of-requires Inv-loop μ-loop
+byte-of-requires c κs = sym (c .before .are-digits .ensures) ∙ c .if2 .taken
+
+slice-write-bytes : tie.Need-slice-write-bytes Inv-loop μ-loop
+slice-write-bytes c = omega arith
+
+add-n : tie.Need-add-n Inv-loop μ-loop
+add-n c = omega arith
+
+loop-less : tie.Need-loop-less Inv-loop μ-loop
+loop-less c = simp length-set (omega arith)
+
+loop-again : tie.Need-loop-again Inv-loop μ-loop
+loop-again c =
+    (simp length-set (omega arith), simp length-set (omega arith), one-more _ (c .before .before .before .before .before .before .before .loop .bytes) (c .before .before .before .before .before .before .before .loop .n) (c .byte-of .result) (c .before .before .before .before .before .before .before .loop .inv .2) (omega arith) (record { pair = record { there = omega (arith, ltb-true); digits = sym (c .before .before .are-digits .ensures) ∙ c .before .if2 .taken }; value = c .byte-of .ensures }))
+
+same-length : tie.Need-same-length Inv-loop μ-loop
+same-length c = omega arith
+
+returns : tie.Need-returns Inv-loop μ-loop
+returns c =
+    record { same-length = c .before .before .before .before .before .before .loop .inv .0; within = c .before .before .before .before .before .before .loop .inv .1; spelled = c .before .before .before .before .before .before .loop .inv .2; ended = λ room p. true≢false (sym (p .digits) ∙ sym (c .before .are-digits .ensures) ∙ c .if2 .left) }
+
+same-length-2 : tie.Need-same-length-2 Inv-loop μ-loop
+same-length-2 c = omega arith
+
+returns-2 : tie.Need-returns-2 Inv-loop μ-loop
+returns-2 c =
+    record { same-length = c .before .before .loop .inv .0; within = c .before .before .loop .inv .1; spelled = c .before .before .loop .inv .2; ended = λ room p. omega (arith, ltb-false) }
+
+same-length-3 : tie.Need-same-length-3 Inv-loop μ-loop
+same-length-3 c = omega arith
+
+returns-3 : tie.Need-returns-3 Inv-loop μ-loop
+returns-3 c =
+    record { same-length = c .before .loop .inv .0; within = c .before .loop .inv .1; spelled = c .before .loop .inv .2; ended = λ room p. omega arith }
+
+pub bytes-in-spec : {M : Type 1} → statement M
+bytes-in-spec =
+    tie.close
+    (tie.spec
+    Inv-loop
+    μ-loop
+    loop-holds
+    mul-x
+    shared-slice-read-x
+    mul-y
+    add-y
+    shared-slice-read-y
+    are-digits-requires
+    byte-of-requires
+    slice-write-bytes
+    add-n
+    loop-less
+    loop-again
+    same-length
+    returns
+    same-length-2
+    returns-2
+    same-length-3
+    returns-3)

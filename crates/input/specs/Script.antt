@@ -1,0 +1,47 @@
+-- The parts of a script.
+use Prim.Native.Nat.{ℕ, _+_, _*_, _-_, _≤_, _<_}
+use mathlib.Core.Bool.{Bool, true, false, cond}
+use mathlib.Core.List.{List}
+use mathlib.Core.Path.{_≡_}
+use lib.Dec.{ltb, leb}
+use lib.ListN.{length, getD}
+
+-- r is the place of the first `mark` at or after a place, or the length
+pub record EndAt (text : List ℕ) (from mark r : ℕ) : Type 0 where
+  pub at-or-after : from ≤ r
+  pub within : r ≤ length text
+  pub none-before : (k : ℕ) → k < r → from ≤ k → getD text k 0 ≡ mark → ⊥
+  pub marked : r < length text → getD text r 0 ≡ mark
+
+-- the value of a digit 0-9 (characters 48 to 57) or A-F (65 to 70), 16 for another byte
+unfoldable pub digitOf : ℕ → ℕ
+digitOf x =
+    cond (ltb x 48) 16
+    (cond (leb x 57) (x - 48)
+    (cond (ltb x 65) 16
+    (cond (leb x 70) (x - 55) 16)))
+
+-- whether two bytes are digits
+unfoldable pub areDigits : ℕ → ℕ → Bool
+areDigits x y = cond (ltb (digitOf x) 16) (ltb (digitOf y) 16) false
+
+-- the byte that two digits spell
+unfoldable pub byteOf : ℕ → ℕ → ℕ
+byteOf x y = 16 * digitOf x + digitOf y
+
+-- the k-th pair of a text is two digits
+pub record Pair (text : List ℕ) (k : ℕ) : Type 0 where
+  pub there : 2 * k + 1 < length text
+  pub digits : areDigits (getD text (2 * k) 0) (getD text (2 * k + 1) 0) ≡ true
+
+-- the k-th pair of a text spells a byte
+pub record Spells (text : List ℕ) (k byte : ℕ) : Type 0 where
+  pub pair : Pair text k
+  pub value : byte ≡ byteOf (getD text (2 * k) 0) (getD text (2 * k + 1) 0)
+
+-- the first r bytes of `after` are those that a text spells, and no more are spelled or fit
+pub record BytesIn (text before after : List ℕ) (r : ℕ) : Type 0 where
+  pub same-length : length after ≡ length before
+  pub within : r ≤ length after
+  pub spelled : (k : ℕ) → k < r → Spells text k (getD after k 0)
+  pub ended : r < length after → Pair text r → ⊥

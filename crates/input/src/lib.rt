@@ -1,0 +1,30 @@
+// What the programs read from standard input.
+mod script;
+
+use libc::STDIN_FILENO;
+pub use script::bytes_in;
+pub use script::end_at;
+ghost use Prim.Native.Nat.{_≤_};
+ghost use mathlib.Core.Path.{_≡_};
+ghost use lib.ListN.{length};
+
+// Reads until the room is full, the input ends or a read fails, and gives the number of bytes to work. After a failed read one byte
+// that is no digit stands behind what was read, so that a text cut short is refused.
+pub fn read_input(buffer: &mut [u8]) -> usize
+    ensures { λ r. ⌜ r ≤ length (now (buffer .entry)) ⌝ }
+{
+    let mut done: usize = 0;
+    while done < buffer.len() {
+        let got = libc::read(STDIN_FILENO, &mut buffer[done..]);
+        if got < 0 {
+            buffer[done] = 0;
+            return done + 1;
+        }
+        let more = io::count(got, &buffer[done..]);
+        if more == 0 {
+            return done;
+        }
+        done += more;
+    }
+    done
+}

@@ -1,0 +1,74 @@
+// The parts of a script: lines, words, and bytes in hexadecimal.
+ghost use Prim.Native.Nat.{_≤_};
+ghost use mathlib.Core.Bool.{true};
+ghost use mathlib.Core.Path.{_≡_};
+ghost use lib.ListN.{length};
+ghost use Rattle.input.specs.Script.{EndAt, digitOf, areDigits, byteOf, BytesIn};
+
+// The place of the next byte `mark` at or after a place, or the length.
+pub fn end_at(text: &[u8], from: usize, mark: u8) -> usize
+    requires { ⌜ from ≤ length (now text) ⌝ }
+    ensures { λ r. ⌜ EndAt (now (text .entry)) from mark r ⌝ }
+{
+    let mut i = from;
+    while i < text.len() {
+        if text[i] == mark {
+            return i;
+        }
+        i += 1;
+    }
+    i
+}
+
+// The value of a digit 0-9 or A-F, 16 for another byte.
+fn digit(x: u8) -> u8
+    ensures { λ r. ⌜ (r ≡ digitOf x) × (r ≤ 16) ⌝ }
+{
+    if x < 48 {
+        return 16;
+    }
+    if x <= 57 {
+        return x - 48;
+    }
+    if x < 65 {
+        return 16;
+    }
+    if x <= 70 {
+        return x - 55;
+    }
+    16
+}
+
+// Whether two bytes are digits.
+fn are_digits(x: u8, y: u8) -> bool
+    ensures { λ r. ⌜ r ≡ areDigits x y ⌝ }
+{
+    digit(x) < 16 && digit(y) < 16
+}
+
+// The byte that two digits spell.
+fn byte_of(x: u8, y: u8) -> u8
+    requires { ⌜ areDigits x y ≡ true ⌝ }
+    ensures { λ r. ⌜ r ≡ byteOf x y ⌝ }
+{
+    16 * digit(x) + digit(y)
+}
+
+// Puts the bytes that pairs of digits spell at the start of `bytes`, as many as fit, and gives their number. The first pair that has
+// another byte in it ends them.
+pub fn bytes_in(text: &[u8], bytes: &mut [u8]) -> usize
+    ensures { λ r. ⌜ BytesIn (now (text .entry)) (now (bytes .entry)) (now (bytes .exit)) r ⌝ }
+{
+    let mut n: usize = 0;
+    while n < bytes.len() && n < text.len() / 2 {
+        let x = text[2 * n];
+        let y = text[2 * n + 1];
+        if are_digits(x, y) {
+            bytes[n] = byte_of(x, y);
+            n += 1;
+        } else {
+            return n;
+        }
+    }
+    n
+}
