@@ -9,24 +9,25 @@ pub fn number(text: &[u8], n: u64) {
     io::print_decimal(1, n);
 }
 
-// Writes a label, a refusal, and a number after a text.
-fn figure(label: &[u8], refusal: u64, text: &[u8], n: u64) {
+// Writes a label and a refusal.
+fn start(label: &[u8], refusal: u64) {
     io::write_all(1, label);
     number(b": refusal ", refusal);
-    number(text, n);
 }
 
-// Writes a label and an answer, its number 0 when refused.
+// Writes a label, a refusal and an amount.
+fn pence(label: &[u8], refusal: u64, n: u64) {
+    start(label, refusal);
+    number(b", ", n);
+    io::write_all(1, b" pence");
+}
+
+// Writes a label and an answer, its amount 0 when refused.
 pub fn answer(label: &[u8], given: Answer) {
     match given {
-        Answer::Amount(amount) => {
-            figure(label, 0, b", ", amount.0);
-        }
-        Answer::Refused(refusal) => {
-            figure(label, refusal, b", ", 0);
-        }
+        Answer::Amount(amount) => pence(label, 0, amount.0),
+        Answer::Refused(refusal) => pence(label, refusal, 0),
     }
-    io::write_all(1, b" pence");
 }
 
 // A number without its sign.
@@ -41,10 +42,11 @@ fn magnitude(n: i64) -> u64
 
 // Writes a label, a refusal and a number of months, with its sign where it is below 0.
 pub fn months(label: &[u8], refusal: u64, n: i64) {
+    start(label, refusal);
     if n < 0 {
-        figure(label, refusal, b", -", magnitude(n));
+        number(b", -", magnitude(n));
     } else {
-        figure(label, refusal, b", ", magnitude(n));
+        number(b", ", magnitude(n));
     }
     io::write_all(1, b" months");
 }

@@ -22,24 +22,27 @@ use years::on_posts;
 ghost use Prim.Native.Nat.{_≤_};
 ghost use lib.ListN.{length};
 
-// Makes the call of a line.
+// Makes the call of a command on words, each after one byte that parts it from what stands before.
+fn call(command: u8, label: &[u8], words: &[u8]) {
+    let mut n = [0u64; 10];
+    numbers_in(words, &mut n);
+    match command {
+        b'P' => on_posts(label, words),
+        b'B' => on_hexadecimal(label, words, n[0]),
+        b'D' => dates(label, &n),
+        b'C' => charge(label, n),
+        b'A' => abatement(label, n),
+        _ => {}
+    }
+}
+
+// Does a line.
 fn line(text: &[u8]) {
     if text.len() < 2 {
         return;
     }
     let bar = end_at(text, 2, b'|');
-    let label = &text[2..bar];
-    let mut n = [0u64; 52];
-    let count = numbers_in(&text[bar..], &mut n);
-    match text[0] {
-        b'P' => on_posts(label, &n, count),
-        b'B' => on_hexadecimal(label, &text[bar..], n[0]),
-        b'D' => dates(label, &n),
-        b'C' => charge(label, &n),
-        b'A' => abatement(label, &n),
-        _ => {}
-    }
-    io::write_all(1, b"\n");
+    call(text[0], &text[2..bar], &text[bar..]);
 }
 
 // Does the lines of a script in turn.
@@ -50,6 +53,7 @@ fn run(script: &[u8])
     while at < script.len() {
         let end = end_at(script, at, b'\n');
         line(&script[at..end]);
+        io::write_all(1, b"\n");
         at = end + 1;
     }
 }

@@ -2,30 +2,28 @@
 use super::lines;
 use input::bytes_in;
 use input::end_at;
+use input::numbers_in;
 use posts::posts_call;
-ghost use Prim.Native.Nat.{_+_, _≤_, _<_};
+ghost use Prim.Native.Nat.{_+_, _≤_};
 ghost use lib.ListN.{length};
 ghost use Rattle.io.specs.Counts.{Counts};
 
-// Puts the last byte of a number at a place.
-fn put_byte(bytes: &mut [u8], at: usize, n: u64)
-    requires { ⌜ at < length (now bytes) ⌝ }
+// Puts the last two bytes of a number at a place.
+fn put_two(bytes: &mut [u8], at: usize, n: u64)
+    requires { ⌜ at + 2 ≤ length (now bytes) ⌝ }
 {
-    bytes[at] = (n % 256) as u8;
+    bytes[at] = (n / 256 % 256) as u8;
+    bytes[at + 1] = (n % 256) as u8;
 }
 
 // Puts a post, h 2, w 2, p 4 bytes, at a place of the bytes.
 fn put(bytes: &mut [u8], at: usize, h: u64, w: u64, p: u64)
     requires { ⌜ at + 8 ≤ length (now bytes) ⌝ }
 {
-    put_byte(bytes, at, h / 256);
-    put_byte(bytes, at + 1, h);
-    put_byte(bytes, at + 2, w / 256);
-    put_byte(bytes, at + 3, w);
-    put_byte(bytes, at + 4, p / 16777216);
-    put_byte(bytes, at + 5, p / 65536);
-    put_byte(bytes, at + 6, p / 256);
-    put_byte(bytes, at + 7, p);
+    put_two(bytes, at, h);
+    put_two(bytes, at + 2, w);
+    put_two(bytes, at + 4, p / 65536);
+    put_two(bytes, at + 6, p);
 }
 
 // Puts posts, three numbers h, w, p each after the first number, into bytes; answers how many bytes they take.
@@ -65,11 +63,11 @@ fn on_bytes(label: &[u8], bytes: &[u8], n: u64) {
 }
 
 // The posts call on posts of three numbers each, after the number of places lent.
-pub fn on_posts(label: &[u8], numbers: &[u64; 52], count: usize)
-    requires { ⌜ count ≤ 52 ⌝ }
-{
+pub fn on_posts(label: &[u8], words: &[u8]) {
+    let mut numbers = [0u64; 52];
+    let count = numbers_in(words, &mut numbers);
     let mut bytes = [0u8; 136];
-    let n = put_all(numbers, count / 3, &mut bytes);
+    let n = put_all(&numbers, count / 3, &mut bytes);
     on_bytes(label, &bytes[..n], numbers[0]);
 }
 

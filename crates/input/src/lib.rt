@@ -4,7 +4,6 @@ mod script;
 use libc::STDIN_FILENO;
 pub use script::bytes_in;
 pub use script::end_at;
-pub use script::number_in;
 pub use script::numbers_in;
 ghost use Rattle.io.specs.Counts.{Counts};
 

@@ -1,4 +1,4 @@
-// The parts of a script: lines, words, and bytes in hexadecimal.
+// The parts of a script: lines, words, bytes in hexadecimal, numbers in decimal.
 ghost use Prim.Native.Nat.{_≤_};
 ghost use mathlib.Core.Bool.{true};
 ghost use mathlib.Core.Path.{_≡_};
@@ -88,7 +88,7 @@ fn with_digit(n: u64, x: u8) -> u64
 }
 
 // The number that decimal digits spell.
-pub fn number_in(text: &[u8]) -> u64
+fn number_in(text: &[u8]) -> u64
     ensures { λ r. ⌜ r ≡ numberOf (now (text .entry)) ⌝ }
 {
     let mut n: u64 = 0;

@@ -7,10 +7,10 @@ use Rattle.figures.proofs.run.Statement.{statement}
 use Rattle.figures.proofs.run.Tie as tie
 
 abbrev Inv-loop : tie.InvT-loop
-Inv-loop script at₀ at = Unit
+Inv-loop script at₀ t4 at = Unit
 
 abbrev μ-loop : tie.MeasureT-loop
-μ-loop script at₀ at = length script - at
+μ-loop script at₀ t4 at = length script - at
 
 loop-holds : tie.Need-loop-holds Inv-loop μ-loop
 loop-holds c = tt
@@ -29,6 +29,12 @@ part-line-end c = omega arith
 
 line-requires : tie.Need-line-requires Inv-loop μ-loop
 line-requires c κs = search needs
+
+slice-aggregate-write-all : tie.Need-slice-aggregate-write-all Inv-loop μ-loop
+slice-aggregate-write-all c = search needs
+
+write-all-requires : tie.Need-write-all-requires Inv-loop μ-loop
+write-all-requires c κs = search needs
 
 add-at : tie.Need-add-at Inv-loop μ-loop
 add-at c = omega arith
@@ -54,6 +60,8 @@ run-spec =
     part-line-start
     part-line-end
     line-requires
+    slice-aggregate-write-all
+    write-all-requires
     add-at
     loop-less
     loop-again
