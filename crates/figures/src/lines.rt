@@ -1,48 +1,33 @@
-// The lines that the program writes.
+// The lines that the program writes, without their ends.
 use measures::Answer;
 ghost use mathlib.Core.Path.{_≡_};
 ghost use lib.IntN.{natAbs};
-ghost use Rattle.measures.specs.Answers.{refusalOf, amountOf};
 
-// The refusal of an answer, 0 for none.
-fn refusal_of(answer: Answer) -> u64
-    ensures { λ r. ⌜ r ≡ refusalOf answer ⌝ }
-{
-    match answer {
-        Answer::Amount(_) => 0,
-        Answer::Refused(number) => number,
-    }
-}
-
-// The number of an answer, 0 when refused.
-fn amount_of(answer: Answer) -> u64
-    ensures { λ r. ⌜ r ≡ amountOf answer ⌝ }
-{
-    match answer {
-        Answer::Amount(amount) => amount.0,
-        Answer::Refused(_) => 0,
-    }
+// Writes a text and a number.
+pub fn number(text: &[u8], n: u64) {
+    io::write_all(1, text);
+    io::print_decimal(1, n);
 }
 
 // Writes a label and a refusal.
-pub fn start(label: &[u8], refusal: u64) {
+fn start(label: &[u8], refusal: u64) {
     io::write_all(1, label);
-    io::write_all(1, b": refusal ");
-    io::print_decimal(1, refusal);
-    io::write_all(1, b", ");
+    number(b": refusal ", refusal);
 }
 
-// Writes a label and an answer, with no line end.
-pub fn answered(label: &[u8], answer: Answer) {
-    start(label, refusal_of(answer));
-    io::print_decimal(1, amount_of(answer));
+// Writes a label, a refusal and an amount.
+fn pence(label: &[u8], refusal: u64, n: u64) {
+    start(label, refusal);
+    number(b", ", n);
     io::write_all(1, b" pence");
 }
 
-// Writes a line of a label and an answer.
+// Writes a label and an answer, its amount 0 when refused.
 pub fn answer(label: &[u8], given: Answer) {
-    answered(label, given);
-    io::write_all(1, b"\n");
+    match given {
+        Answer::Amount(amount) => pence(label, 0, amount.0),
+        Answer::Refused(refusal) => pence(label, refusal, 0),
+    }
 }
 
 // A number without its sign.
@@ -55,10 +40,13 @@ fn magnitude(n: i64) -> u64
     n as u64
 }
 
-// Writes a number, with its sign where it is below 0.
-pub fn signed(n: i64) {
+// Writes a label, a refusal and a number of months, with its sign where it is below 0.
+pub fn months(label: &[u8], refusal: u64, n: i64) {
+    start(label, refusal);
     if n < 0 {
-        io::write_all(1, b"-");
+        number(b", -", magnitude(n));
+    } else {
+        number(b", ", magnitude(n));
     }
-    io::print_decimal(1, magnitude(n));
+    io::write_all(1, b" months");
 }

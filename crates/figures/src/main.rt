@@ -1,14 +1,65 @@
 // Runs figures and limits through the calls and writes what each gave, one line for each call.
+// Standard input is a script. After the label come numbers in decimal:
+//   P LABEL|PLACES H W P H W P    the posts call on posts, with this many places lent, 9 in each;
+//   B LABEL|PLACES BYTES          the same on bytes in hexadecimal, - for none;
+//   D LABEL|Y M D Y M D AGE       the dates call on birth, retirement and pension age;
+//   C LABEL|PAYS TERMS            the charge call on the pays of years 4, 3, 2, 1, the allowances of years 3, 2, 1, the controls,
+//                                 the days and the factor;
+//   A LABEL|AMOUNTS               the abatement call on the pension, the earned pension, previous pay and new pay.
 // The file stdout has what document 01 says of them.
-mod abatements;
-mod charges;
-mod dates;
+mod calls;
 mod lines;
 mod years;
 
+use calls::abatement;
+use calls::charge;
+use calls::dates;
+use input::end_at;
+use input::numbers_in;
+use input::read_input;
+use years::on_hexadecimal;
+use years::on_posts;
+ghost use Prim.Native.Nat.{_≤_};
+ghost use lib.ListN.{length};
+
+// Makes the call of a command on words, each after one byte that parts it from what stands before.
+fn call(command: u8, label: &[u8], words: &[u8]) {
+    let mut n = [0u64; 10];
+    numbers_in(words, &mut n);
+    match command {
+        b'P' => on_posts(label, words),
+        b'B' => on_hexadecimal(label, words, n[0]),
+        b'D' => dates(label, &n),
+        b'C' => charge(label, n),
+        b'A' => abatement(label, n),
+        _ => {}
+    }
+}
+
+// Does a line.
+fn line(text: &[u8]) {
+    if text.len() < 2 {
+        return;
+    }
+    let bar = end_at(text, 2, b'|');
+    call(text[0], &text[2..bar], &text[bar..]);
+}
+
+// Does the lines of a script in turn.
+fn run(script: &[u8])
+    requires { ⌜ length (now script) ≤ 65536 ⌝ }
+{
+    let mut at: usize = 0;
+    while at < script.len() {
+        let end = end_at(script, at, b'\n');
+        line(&script[at..end]);
+        io::write_all(1, b"\n");
+        at = end + 1;
+    }
+}
+
 fn main() {
-    years::all();
-    dates::all();
-    charges::all();
-    abatements::all();
+    let mut buffer = io::large_buffer();
+    let n = read_input(&mut buffer);
+    run(&buffer[..n]);
 }

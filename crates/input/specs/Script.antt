@@ -1,10 +1,11 @@
 -- The parts of a script.
 use Prim.Native.Nat.{ℕ, _+_, _*_, _-_, _≤_, _<_}
 use mathlib.Core.Bool.{Bool, true, false, cond}
-use mathlib.Core.List.{List}
+use mathlib.Core.List.{List, [], _∷_}
 use mathlib.Core.Path.{_≡_}
 use lib.Dec.{ltb, leb}
 use lib.ListN.{length, getD}
+use Rattle.io.specs.Counts.{Counts}
 
 -- r is the place of the first `mark` at or after a place, or the length
 pub record EndAt (text : List ℕ) (from mark r : ℕ) : Type 0 where
@@ -42,6 +43,20 @@ pub record Spells (text : List ℕ) (k byte : ℕ) : Type 0 where
 -- the first r bytes of `after` are those that a text spells, and no more are spelled or fit
 pub record BytesIn (text before after : List ℕ) (r : ℕ) : Type 0 where
   pub same-length : length after ≡ length before
-  pub within : r ≤ length after
+  pub within : Counts r after
   pub spelled : (k : ℕ) → k < r → Spells text k (getD after k 0)
   pub ended : r < length after → Pair text r → ⊥
+
+-- a number with one decimal digit more; the number itself where the byte is no digit 0-9 or there is no room for it
+unfoldable pub withDigit : ℕ → ℕ → ℕ
+withDigit n x =
+    cond (ltb (digitOf x) 10) (cond (ltb (10 * n + digitOf x) 18446744073709551616) (10 * n + digitOf x) n) n
+
+-- a number with the decimal digits of a text after it
+unfoldable pub withDigits : ℕ → List ℕ → ℕ
+withDigits n [] = n
+withDigits n (x ∷ more) = withDigits (withDigit n x) more
+
+-- the number that decimal digits spell
+abbrev pub numberOf : List ℕ → ℕ
+numberOf text = withDigits 0 text

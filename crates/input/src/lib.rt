@@ -4,14 +4,13 @@ mod script;
 use libc::STDIN_FILENO;
 pub use script::bytes_in;
 pub use script::end_at;
-ghost use Prim.Native.Nat.{_≤_};
-ghost use mathlib.Core.Path.{_≡_};
-ghost use lib.ListN.{length};
+pub use script::numbers_in;
+ghost use Rattle.io.specs.Counts.{Counts};
 
 // Reads until the room is full, the input ends or a read fails, and gives the number of bytes to work. After a failed read one byte
 // that is no digit stands behind what was read, so that a text cut short is refused.
 pub fn read_input(buffer: &mut [u8]) -> usize
-    ensures { λ r. ⌜ r ≤ length (now (buffer .entry)) ⌝ }
+    ensures { λ r. ⌜ Counts r (now (buffer .exit)) ⌝ }
 {
     let mut done: usize = 0;
     while done < buffer.len() {

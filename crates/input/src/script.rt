@@ -1,9 +1,9 @@
-// The parts of a script: lines, words, and bytes in hexadecimal.
+// The parts of a script: lines, words, bytes in hexadecimal, numbers in decimal.
 ghost use Prim.Native.Nat.{_≤_};
 ghost use mathlib.Core.Bool.{true};
 ghost use mathlib.Core.Path.{_≡_};
 ghost use lib.ListN.{length};
-ghost use Rattle.input.specs.Script.{EndAt, digitOf, areDigits, byteOf, BytesIn};
+ghost use Rattle.input.specs.Script.{EndAt, digitOf, areDigits, byteOf, BytesIn, withDigit, numberOf};
 
 // The place of the next byte `mark` at or after a place, or the length.
 pub fn end_at(text: &[u8], from: usize, mark: u8) -> usize
@@ -69,6 +69,50 @@ pub fn bytes_in(text: &[u8], bytes: &mut [u8]) -> usize
         } else {
             return n;
         }
+    }
+    n
+}
+
+// A number with one decimal digit more; the number itself where the byte is no digit 0-9 or there is no room for it.
+fn with_digit(n: u64, x: u8) -> u64
+    ensures { λ r. ⌜ r ≡ withDigit n x ⌝ }
+{
+    let value = digit(x) as u64;
+    if 10 <= value {
+        return n;
+    }
+    if (18446744073709551615 - value) / 10 < n {
+        return n;
+    }
+    10 * n + value
+}
+
+// The number that decimal digits spell.
+fn number_in(text: &[u8]) -> u64
+    ensures { λ r. ⌜ r ≡ numberOf (now (text .entry)) ⌝ }
+{
+    let mut n: u64 = 0;
+    let mut i: usize = 0;
+    while i < text.len() {
+        n = with_digit(n, text[i]);
+        i += 1;
+    }
+    n
+}
+
+// Puts the numbers of the words of a text, each after one byte that parts it from what stands before, at the start of `numbers`, as
+// many as fit, and gives how many.
+pub fn numbers_in(text: &[u8], numbers: &mut [u64]) -> usize
+    ensures { λ r. ⌜ r ≤ length (now (numbers .exit)) ⌝ }
+{
+    let mut n: usize = 0;
+    let mut at: usize = 0;
+    while at < text.len() && n < numbers.len() {
+        let start = at + 1;
+        let end = end_at(text, start, b' ');
+        numbers[n] = number_in(&text[start..end]);
+        n += 1;
+        at = end;
     }
     n
 }

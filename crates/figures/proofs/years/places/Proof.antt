@@ -1,16 +1,15 @@
 -- `figures::years::places` ends: one place fewer is left at each turn.
 use Prim.Native.Nat.{_-_}
-use lib.ListN.{length}
-use borrow.Author.Needs.{needs}
 use native.Mathlib.Omega.{arith}
+use borrow.Author.Needs.{needs}
 use Rattle.figures.proofs.years.places.Statement.{statement}
 use Rattle.figures.proofs.years.places.Tie as tie
 
 abbrev Inv-loop : tie.InvT-loop
-Inv-loop lent i₀ t4 t5 i = Unit
+Inv-loop list lent i₀ t5 i = Unit
 
 abbrev μ-loop : tie.MeasureT-loop
-μ-loop lent i₀ t4 t5 i = length lent - i
+μ-loop list lent i₀ t5 i = lent - i
 
 slice-aggregate-write-all : tie.Need-slice-aggregate-write-all Inv-loop μ-loop
 slice-aggregate-write-all c = search needs
@@ -21,20 +20,17 @@ write-all-requires c κs = search needs
 loop-holds : tie.Need-loop-holds Inv-loop μ-loop
 loop-holds c = tt
 
-slice-aggregate-write-all-2 : tie.Need-slice-aggregate-write-all-2 Inv-loop μ-loop
-slice-aggregate-write-all-2 c = search needs
+slice-aggregate-number : tie.Need-slice-aggregate-number Inv-loop μ-loop
+slice-aggregate-number c = search needs
 
-write-all-requires-2 : tie.Need-write-all-requires-2 Inv-loop μ-loop
-write-all-requires-2 c κs = search needs
+mul-number : tie.Need-mul-number Inv-loop μ-loop
+mul-number c = omega arith
 
-mul-print-decimal : tie.Need-mul-print-decimal Inv-loop μ-loop
-mul-print-decimal c = omega arith
+element-copy-out-number : tie.Need-element-copy-out-number Inv-loop μ-loop
+element-copy-out-number c = omega arith
 
-shared-slice-read-print-decimal : tie.Need-shared-slice-read-print-decimal Inv-loop μ-loop
-shared-slice-read-print-decimal c = omega arith
-
-print-decimal-requires : tie.Need-print-decimal-requires Inv-loop μ-loop
-print-decimal-requires c κs = search needs
+number-requires : tie.Need-number-requires Inv-loop μ-loop
+number-requires c κs = search needs
 
 add-i : tie.Need-add-i Inv-loop μ-loop
 add-i c = omega arith
@@ -44,12 +40,6 @@ loop-less c = omega arith
 
 loop-again : tie.Need-loop-again Inv-loop μ-loop
 loop-again c = tt
-
-slice-aggregate-write-all-3 : tie.Need-slice-aggregate-write-all-3 Inv-loop μ-loop
-slice-aggregate-write-all-3 c = search needs
-
-write-all-requires-3 : tie.Need-write-all-requires-3 Inv-loop μ-loop
-write-all-requires-3 c κs = search needs
 
 returns : tie.Need-returns Inv-loop μ-loop
 returns c = search needs
@@ -63,14 +53,11 @@ places-spec =
     slice-aggregate-write-all
     write-all-requires
     loop-holds
-    slice-aggregate-write-all-2
-    write-all-requires-2
-    mul-print-decimal
-    shared-slice-read-print-decimal
-    print-decimal-requires
+    slice-aggregate-number
+    mul-number
+    element-copy-out-number
+    number-requires
     add-i
     loop-less
     loop-again
-    slice-aggregate-write-all-3
-    write-all-requires-3
     returns)

@@ -6,6 +6,7 @@ use lib.ListN.{length, length-set, getD}
 use native.Mathlib.Omega.{arith}
 use borrow.Author.Needs.{needs}
 use borrow.Author.Tests.{ltb-true, ltb-false}
+use Rattle.io.proofs.Counting.{counts}
 use Rattle.input.specs.Script.{Spells}
 use Rattle.input.proofs.Spelling.{one-more}
 use Rattle.input.proofs.script.bytes_in.Statement.{statement}
@@ -60,21 +61,21 @@ same-length c = omega arith
 
 returns : tie.Need-returns Inv-loop μ-loop
 returns c =
-    record { same-length = c .before .before .before .before .before .before .loop .inv .0; within = c .before .before .before .before .before .before .loop .inv .1; spelled = c .before .before .before .before .before .before .loop .inv .2; ended = λ room p. true≢false (sym (p .digits) ∙ sym (c .before .are-digits .ensures) ∙ c .if2 .left) }
+    record { same-length = c .before .before .before .before .before .before .loop .inv .0; within = counts _ _ (c .before .before .before .before .before .before .loop .inv .1); spelled = c .before .before .before .before .before .before .loop .inv .2; ended = λ room p. true≢false (sym (p .digits) ∙ sym (c .before .are-digits .ensures) ∙ c .if2 .left) }
 
 same-length-2 : tie.Need-same-length-2 Inv-loop μ-loop
 same-length-2 c = omega arith
 
 returns-2 : tie.Need-returns-2 Inv-loop μ-loop
 returns-2 c =
-    record { same-length = c .before .before .loop .inv .0; within = c .before .before .loop .inv .1; spelled = c .before .before .loop .inv .2; ended = λ room p. omega (arith, ltb-false) }
+    record { same-length = c .before .before .loop .inv .0; within = counts _ _ (c .before .before .loop .inv .1); spelled = c .before .before .loop .inv .2; ended = λ room p. omega (arith, ltb-false) }
 
 same-length-3 : tie.Need-same-length-3 Inv-loop μ-loop
 same-length-3 c = omega arith
 
 returns-3 : tie.Need-returns-3 Inv-loop μ-loop
 returns-3 c =
-    record { same-length = c .before .loop .inv .0; within = c .before .loop .inv .1; spelled = c .before .loop .inv .2; ended = λ room p. omega arith }
+    record { same-length = c .before .loop .inv .0; within = counts _ _ (c .before .loop .inv .1); spelled = c .before .loop .inv .2; ended = λ room p. omega arith }
 
 pub bytes-in-spec : {M : Type 1} → statement M
 bytes-in-spec =

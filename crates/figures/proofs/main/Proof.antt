@@ -1,32 +1,28 @@
--- `running::main` meets its contract.
-use mathlib.Core.Path.{sym}
+-- `figures::main` meets its contract.
 use native.Mathlib.Omega.{arith}
-use lib.ListN.{length-take}
-use lib.Seq.{length-take-le}
-use borrow.Author.Needs.{needs}
-use Rattle.running.proofs.main.Statement.{statement}
-use Rattle.running.proofs.main.Tie as tie
+use Rattle.figures.proofs.main.Statement.{statement}
+use Rattle.figures.proofs.main.Tie as tie
 
 large-buffer-requires : tie.Need-large-buffer-requires
-large-buffer-requires c κs = search needs
+large-buffer-requires c κs = tt
 
 slice-aggregate-read-input : tie.Need-slice-aggregate-read-input
-slice-aggregate-read-input c = search needs
+slice-aggregate-read-input c = c .before .large-buffer .ensures
 
 read-input-requires : tie.Need-read-input-requires
-read-input-requires c κs = search needs
+read-input-requires c κs = tt
 
 array-share-prefix-buffer : tie.Need-array-share-prefix-buffer
-array-share-prefix-buffer c = search needs
+array-share-prefix-buffer c = omega arith
 
 slice-aggregate-run : tie.Need-slice-aggregate-run
-slice-aggregate-run c = sym (length-take-le _ _ (omega arith))
+slice-aggregate-run c = c .before .before .read-input .ensures .1
 
 run-requires : tie.Need-run-requires
-run-requires c κs = simp length-take (omega arith)
+run-requires c κs = omega arith
 
 returns : tie.Need-returns
-returns c = search needs
+returns c = tt
 
 pub main-spec : {M : Type 1} → statement M
 main-spec =
