@@ -32,13 +32,21 @@ pub fn dates(label: &[u8], n: &[u64; 10]) {
     lines::months(label, refusal_number(answer), signed(answer));
 }
 
+// The amount of the number at a place.
+fn pence(n: &[u64; 10], at: usize) -> Pence
+    requires { ⌜ at < 10 ⌝ }
+    ensures { λ r. ⌜ r .0 ≡ getD (now (n .entry)) at 0 ⌝ }
+{
+    Pence(n[at])
+}
+
 // The charge call.
-pub fn charge(label: &[u8], n: [u64; 10]) {
+pub fn charge(label: &[u8], n: &[u64; 10]) {
     let f = FinalPay {
-        pay4: Pence(n[0]),
-        pay3: Pence(n[1]),
-        pay2: Pence(n[2]),
-        pay1: Pence(n[3]),
+        pay4: pence(n, 0),
+        pay3: pence(n, 1),
+        pay2: pence(n, 2),
+        pay1: pence(n, 3),
         allowance3: n[4],
         allowance2: n[5],
         allowance1: n[6],
@@ -50,7 +58,7 @@ pub fn charge(label: &[u8], n: [u64; 10]) {
 }
 
 // The abatement call.
-pub fn abatement(label: &[u8], n: [u64; 10]) {
-    let answer = abatement_call(Pence(n[0]), Pence(n[1]), Pence(n[2]), Pence(n[3]));
+pub fn abatement(label: &[u8], n: &[u64; 10]) {
+    let answer = abatement_call(pence(n, 0), pence(n, 1), pence(n, 2), pence(n, 3));
     lines::answer(label, answer);
 }

@@ -30,8 +30,8 @@ fn call(command: u8, label: &[u8], words: &[u8]) {
         b'P' => on_posts(label, words),
         b'B' => on_hexadecimal(label, words, n[0]),
         b'D' => dates(label, &n),
-        b'C' => charge(label, n),
-        b'A' => abatement(label, n),
+        b'C' => charge(label, &n),
+        b'A' => abatement(label, &n),
         _ => {}
     }
 }
