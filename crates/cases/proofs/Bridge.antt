@@ -2,7 +2,7 @@
 use mathlib.Core.Path.{_≡_, refl, _∙_}
 use mathlib.Core.List.{List, [], _∷_, _++_}
 use borrow.Author.Tests.{eq-eqb}
-use Rattle.measures.specs.Tries.{tried, after, plain}
+use Rattle.measures.specs.Tries.{tried, plain}
 use Rattle.measures.proofs.Trying.{after-meant, after-end, after-without, after-relates}
 use Rattle.frames.specs.declared.Decoded.{Decoded}
 use Rattle.rules.specs.Rules.{Kept, nothing, refusalOfDecoded, keepDecoded, kept, framesMeant}

@@ -1,11 +1,13 @@
 -- The parts of a script.
-use Prim.Native.Nat.{ℕ, _+_, _*_, _-_, _≤_, _<_}
+use Prim.Native.Nat.{ℕ, _+_, _*_, _≤_, _<_}
 use mathlib.Core.Bool.{Bool, true, false, cond}
 use mathlib.Core.List.{List, [], _∷_}
 use mathlib.Core.Path.{_≡_}
-use lib.Dec.{ltb, leb}
+use lib.Dec.{ltb}
 use lib.ListN.{length, getD}
 use Rattle.io.specs.Counts.{Counts}
+use Rattle.fields.specs.declared.Digit.{Digit}
+use Rattle.fields.specs.Digits.{digitOf}
 
 -- r is the place of the first `mark` at or after a place, or the length
 pub record EndAt (text : List ℕ) (from mark r : ℕ) : Type 0 where
@@ -14,21 +16,22 @@ pub record EndAt (text : List ℕ) (from mark r : ℕ) : Type 0 where
   pub none-before : (k : ℕ) → k < r → from ≤ k → getD text k 0 ≡ mark → ⊥
   pub marked : r < length text → getD text r 0 ≡ mark
 
--- the value of a digit 0-9 (characters 48 to 57) or A-F (65 to 70), 16 for another byte
-unfoldable pub digitOf : ℕ → ℕ
-digitOf x =
-    cond (ltb x 48) 16
-    (cond (leb x 57) (x - 48)
-    (cond (ltb x 65) 16
-    (cond (leb x 70) (x - 55) 16)))
+-- a digit's value, 16 for another character
+unfoldable pub valueOf : Digit → ℕ
+valueOf (Digit.Value value) = value
+valueOf Digit.Other = 16
+
+-- the value of a byte as a digit 0-9 or A-F, 16 for another byte
+unfoldable pub digitValue : ℕ → ℕ
+digitValue x = valueOf (digitOf x)
 
 -- whether two bytes are digits
 unfoldable pub areDigits : ℕ → ℕ → Bool
-areDigits x y = cond (ltb (digitOf x) 16) (ltb (digitOf y) 16) false
+areDigits x y = cond (ltb (digitValue x) 16) (ltb (digitValue y) 16) false
 
 -- the byte that two digits spell
 unfoldable pub byteOf : ℕ → ℕ → ℕ
-byteOf x y = 16 * digitOf x + digitOf y
+byteOf x y = 16 * digitValue x + digitValue y
 
 -- the k-th pair of a text is two digits
 pub record Pair (text : List ℕ) (k : ℕ) : Type 0 where
@@ -50,7 +53,7 @@ pub record BytesIn (text before after : List ℕ) (r : ℕ) : Type 0 where
 -- a number with one decimal digit more; the number itself where the byte is no digit 0-9 or there is no room for it
 unfoldable pub withDigit : ℕ → ℕ → ℕ
 withDigit n x =
-    cond (ltb (digitOf x) 10) (cond (ltb (10 * n + digitOf x) 18446744073709551616) (10 * n + digitOf x) n) n
+    cond (ltb (digitValue x) 10) (cond (ltb (10 * n + digitValue x) 18446744073709551616) (10 * n + digitValue x) n) n
 
 -- a number with the decimal digits of a text after it
 unfoldable pub withDigits : ℕ → List ℕ → ℕ

@@ -1,9 +1,11 @@
 // The parts of a script: lines, words, bytes in hexadecimal, numbers in decimal.
+use fields::Digit;
+use fields::read_digit;
 ghost use Prim.Native.Nat.{_≤_};
 ghost use mathlib.Core.Bool.{true};
 ghost use mathlib.Core.Path.{_≡_};
 ghost use lib.ListN.{length};
-ghost use Rattle.input.specs.Script.{EndAt, digitOf, areDigits, byteOf, BytesIn, withDigit, numberOf};
+ghost use Rattle.input.specs.Script.{EndAt, digitValue, areDigits, byteOf, BytesIn, withDigit, numberOf};
 
 // The place of the next byte `mark` at or after a place, or the length.
 pub fn end_at(text: &[u8], from: usize, mark: u8) -> usize
@@ -22,21 +24,12 @@ pub fn end_at(text: &[u8], from: usize, mark: u8) -> usize
 
 // The value of a digit 0-9 or A-F, 16 for another byte.
 fn digit(x: u8) -> u8
-    ensures { λ r. ⌜ (r ≡ digitOf x) × (r ≤ 16) ⌝ }
+    ensures { λ r. ⌜ (r ≡ digitValue x) × (r ≤ 16) ⌝ }
 {
-    if x < 48 {
-        return 16;
+    match read_digit(x) {
+        Digit::Value(value) => value,
+        Digit::Other => 16,
     }
-    if x <= 57 {
-        return x - 48;
-    }
-    if x < 65 {
-        return 16;
-    }
-    if x <= 70 {
-        return x - 55;
-    }
-    16
 }
 
 // Whether two bytes are digits.

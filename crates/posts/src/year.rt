@@ -11,7 +11,7 @@ ghost use mathlib.Core.Bool.{cond, true};
 ghost use Prim.Native.Nat.{_+_, _*_, _-_, _≤_, _<_, min};
 ghost use lib.ListN.{getD};
 ghost use Rattle.measures.specs.Rounding.{rounded};
-ghost use Rattle.posts.specs.Posts.{h, p, contractedMinutes, wholeTime, parts, aggregatePay};
+ghost use Rattle.posts.specs.Posts.{h, p, wholeTime, parts};
 ghost use Rattle.posts.specs.Refusals.{postStands, postRefusal};
 ghost use Rattle.posts.specs.Sums.{minutesAhead};
 ghost use Rattle.posts.specs.Year.{noPost, noPosts, postsOf, Held, joinedBy, Allocated};

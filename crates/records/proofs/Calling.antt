@@ -8,7 +8,7 @@ use native.Mathlib.Omega.{arith}
 use lib.Dec.{eqb, leb}
 use lib.ListN.{length, take, drop, getD}
 use lib.Seq.{take-suc, take-length}
-use borrow.Author.Tests.{eqb-true, leb-true, ne-eqb, eq-eqb, le-leb, lt-leb}
+use borrow.Author.Tests.{eqb-true, leb-true, ne-eqb, eq-eqb}
 use Rattle.measures.specs.declared.Pence.{Pence}
 use Rattle.measures.specs.declared.Answer.{Answer}
 use Rattle.measures.specs.Answers.{answerOf}

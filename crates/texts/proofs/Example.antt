@@ -14,7 +14,8 @@ use Rattle.frames.specs.Limits.{memberRefusal, yearStands}
 use Rattle.rules.specs.declared.Outcome.{Outcome}
 use Rattle.rules.specs.Rules.{lastOf, beforePay, hasSection, isNext, yearRefusal, openPosts, refusalOf, addPost, keep, refusalOfDecoded, keepDecoded}
 use Rattle.rules.specs.Working.{early, pensionFrom, pensionOf, ownPay, pension1995, factorFor, reducedIf, gross2015, gross1995, grossLumpSum, debitFor, debitOf, debit2015, debit1995, chargeOf, payThere, factorsThere, debitsFit, closingOf, amountsOf, workedUnless, answerOf}
-use Rattle.texts.specs.Text.{before, linesOf, digitOf, byteThen, bytesOf, lineBytes, decodedLine, framesOf, readFrom, workText}
+use Rattle.fields.specs.Digits.{digitOf}
+use Rattle.texts.specs.Text.{before, linesOf, byteThen, bytesOf, lineBytes, decodedLine, framesOf, readFrom, workText}
 use Rattle.texts.specs.Printed.{characterOf, digitsOf, printedOf}
 
 -- "Input:", its four lines of characters

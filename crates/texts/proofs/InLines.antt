@@ -8,23 +8,25 @@ use mathlib.Core.Option.{Option, none, some}
 use native.Mathlib.Omega.{arith}
 use native.Mathlib.Numerals.{add-one}
 use lib.ListN.{length, take, drop, getD, set, drop-of-length-le, length-append, length-set}
-use lib.Dec.{ltb, leb, eqb}
+use lib.Dec.{eqb}
 use lib.Seq.{drop-cons, take-all, take-append-le, take-suc-set}
-use borrow.Author.Tests.{eq-eqb, ne-eqb, leb-true, le-ltb, lt-ltb}
+use borrow.Author.Tests.{eq-eqb, ne-eqb, le-ltb, lt-ltb}
 use Rattle.measures.specs.Tries.{after}
 use Rattle.frames.specs.declared.Frame.{Frame}
 use Rattle.frames.specs.declared.Decoded.{Decoded}
 use Rattle.frames.specs.Frames.{frameLength, kindOf, decoded}
 use Rattle.frames.proofs.Bytes.{decoded-three}
 use Rattle.rules.specs.declared.Outcome.{Outcome}
-use Rattle.rules.specs.Rules.{Kept, nothing, refusalOfDecoded, kept}
+use Rattle.rules.specs.Rules.{Kept, refusalOfDecoded, kept}
 use Rattle.cases.specs.declared.Case.{Case}
 use Rattle.cases.specs.declared.Taken.{Taken}
 use Rattle.cases.specs.State.{afterAll}
 use Rattle.cases.specs.Running.{IsCase, TakenAfter, TakenFrom, ClosedAfter}
 use Rattle.cases.proofs.Bridge.{kept-one-more}
-use Rattle.texts.specs.declared.Digit.{Digit}
-use Rattle.texts.specs.Text.{Line, ended, unended, before, linesOf, digitOf, byteThen, bytesOf, lineBytes, decodedLine, framesOfLines, framesOf, readFrom, workText}
+use Rattle.fields.specs.declared.Digit.{Digit}
+use Rattle.fields.specs.Digits.{digitOf}
+use Rattle.fields.proofs.Digits.{digit-small}
+use Rattle.texts.specs.Text.{Line, ended, unended, before, linesOf, byteThen, bytesOf, lineBytes, decodedLine, framesOfLines, framesOf, readFrom, workText}
 
 -- the bytes of the rest of a line, `true` where no first digit waits
 unfoldable pub waiting : Bool → ℕ → List ℕ → Option (List ℕ)
@@ -125,25 +127,6 @@ pub finish-line : (bs : List ℕ) (x : ℕ) (ls : List Line) (k : ℕ) (c : Kept
 unfolding finish before joined waiting bytesOf decodedLine
 finish-line [] x ls k c s = absurd (omega arith)
 finish-line (b ∷ bs) x ls k c s = rw append-nil refl
-
--- a digit is below 16
-pub digit-small : (x v : ℕ) → digitOf x ≡ Digit.Value v → v < 16
-unfolding digitOf
-digit-small x v d = go (ltb x 48) (leb x 57) (ltb x 65) (leb x 70) refl refl d
-  where
-    never : _≡_ {A = Digit} Digit.Other (Digit.Value v) → v < 16
-    never e = let z : _≡_ {A = ℕ} 0 1 = cc in omega arith
-
-    value : (y : ℕ) → y < 16 → _≡_ {A = Digit} (Digit.Value y) (Digit.Value v) → v < 16
-    value y h e = let z : y ≡ v = cc in omega arith
-
-    go : (p q r t : Bool) → leb x 57 ≡ q → leb x 70 ≡ t
-        → cond p Digit.Other (cond q (Digit.Value (x - 48)) (cond r Digit.Other (cond t (Digit.Value (x - 55)) Digit.Other))) ≡ Digit.Value v → v < 16
-    go true q r t hq ht e = never e
-    go false true r t hq ht e = value (x - 48) (omega (arith, leb-true x 57 hq)) e
-    go false false true t hq ht e = never e
-    go false false false true hq ht e = value (x - 55) (omega (arith, leb-true x 70 ht)) e
-    go false false false false hq ht e = never e
 
 -- what is longer than any frame is none
 frame-short : (kind : ℕ) → frameLength kind ≤ 28

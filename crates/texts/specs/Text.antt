@@ -1,20 +1,20 @@
 -- A text in two stages: its lines as frames, or 2 or 3; then the frames in order through the rules, and the closing.
-use Prim.Native.Nat.{ℕ, _+_, _-_, _*_}
+use Prim.Native.Nat.{ℕ, _+_, _*_}
 use mathlib.Core.List.{List, [], _∷_}
 use mathlib.Core.Bool.{Bool, true, false, cond}
 use mathlib.Core.Path.{_≡_}
 use mathlib.Core.Option.{Option, none, some}
-use lib.Dec.{ltb, leb, eqb}
+use lib.Dec.{ltb, eqb}
 use lib.ListN.{length}
 use Rattle.frames.specs.declared.Decoded.{Decoded}
 use Rattle.frames.specs.Frames.{decoded}
 use Rattle.rules.specs.declared.Amounts.{Amounts}
-use Rattle.rules.specs.declared.Refusal.{Refusal}
 use Rattle.rules.specs.declared.Outcome.{Outcome}
 use Rattle.rules.specs.Rules.{Kept, nothing, refusalOfDecoded, keepDecoded, kept}
 use Rattle.rules.specs.Working.{answerOf}
 use Rattle.rules.specs.Rivals.{Largest}
-use Rattle.texts.specs.declared.Digit.{Digit}
+use Rattle.fields.specs.declared.Digit.{Digit}
+use Rattle.fields.specs.Digits.{digitOf}
 
 -- ---- the first stage: "A text is lines of digits 0-9 and A-F, two to a byte, each line ended by byte 0A."
 
@@ -34,14 +34,6 @@ before false x (unended cs ∷ ls) = unended (x ∷ cs) ∷ ls
 unfoldable pub linesOf : List ℕ → List Line
 linesOf [] = []
 linesOf (x ∷ more) = before (eqb x 10) x (linesOf more)
-
--- the value of a digit 0-9 (characters 48 to 57) or A-F (65 to 70)
-unfoldable pub digitOf : ℕ → Digit
-digitOf x =
-    cond (ltb x 48) Digit.Other
-    (cond (leb x 57) (Digit.Value (x - 48))
-    (cond (ltb x 65) Digit.Other
-    (cond (leb x 70) (Digit.Value (x - 55)) Digit.Other)))
 
 -- a byte's two digits in front of the bytes that follow; none where one of the three is missing
 unfoldable pub byteThen : Digit → Digit → Option (List ℕ) → Option (List ℕ)

@@ -5,12 +5,6 @@ mod reading;
 pub use printing::printed;
 pub use reading::work_text;
 
-// A character of a line: a digit with its value, or another character.
-pub enum Digit {
-    Value(u8),
-    Other,
-}
-
 // A printed line: the first `count` of its bytes.
 pub struct PrintedLine {
     pub bytes: [u8; 67],

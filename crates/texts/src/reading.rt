@@ -1,31 +1,12 @@
 // A text read line by line into a running case.
-use super::Digit;
 use cases::Case;
+use fields::Digit;
+use fields::read_digit;
 use frames::Decoded;
 use frames::decode;
 use rules::Outcome;
 use rules::Refusal;
-ghost use mathlib.Core.Path.{_≡_};
-ghost use Rattle.texts.specs.Text.{digitOf, TextWorked};
-
-// The value of a digit 0-9 or A-F.
-fn read_digit(x: u8) -> Digit
-    ensures { λ r. ⌜ r ≡ digitOf x ⌝ }
-{
-    if x < 48 {
-        return Digit::Other;
-    }
-    if x <= 57 {
-        return Digit::Value(x - 48);
-    }
-    if x < 65 {
-        return Digit::Other;
-    }
-    if x <= 70 {
-        return Digit::Value(x - 55);
-    }
-    Digit::Other
-}
+ghost use Rattle.texts.specs.Text.{TextWorked};
 
 // What a text comes to: the amounts of its case, or the refusal of the first offending line.
 pub fn work_text(text: &[u8]) -> Outcome

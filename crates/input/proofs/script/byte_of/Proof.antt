@@ -1,5 +1,4 @@
 -- `input::script::byte_of` meets its contract.
-use mathlib.Core.Path.{_≡_}
 use native.Mathlib.Omega.{arith}
 use borrow.Author.Needs.{needs}
 use Rattle.input.specs.Script.{byteOf}

@@ -1,33 +1,23 @@
--- `input::script::digit` meets its contract.
-use native.Mathlib.Omega.{arith}
+-- `input::script::digit` meets its contract: the value of a digit, 16 for another byte.
+use Rattle.input.proofs.Spelling.{value-of, other-of}
 use borrow.Author.Needs.{needs}
-use borrow.Author.Tests.{le-ltb, lt-ltb, le-leb, lt-leb}
-use Rattle.input.specs.Script.{digitOf}
 use Rattle.input.proofs.script.digit.Statement.{statement}
 use Rattle.input.proofs.script.digit.Tie as tie
 
+read-digit-requires : tie.Need-read-digit-requires
+read-digit-requires c κs = search needs
+
+enum-known-value : tie.Need-enum-known-value
+enum-known-value c = search needs
+
+enum-told : tie.Need-enum-told
+enum-told c = search needs
+
 returns : tie.Need-returns
-unfolding digitOf
-returns c = (simp (lt-ltb _ _ (c .if1 .taken)), omega arith)
+returns c = value-of _ (c .before .before .before .read-digit .ensures) (c .before .value .given .1)
 
 returns-2 : tie.Need-returns-2
-unfolding digitOf
-returns-2 c = (simp (le-ltb _ _ (c .before .if1 .left), le-leb _ _ (c .if2 .taken)), omega arith)
-
-returns-3 : tie.Need-returns-3
-unfolding digitOf
-returns-3 c = (simp (le-ltb _ _ (c .before .before .if1 .left), lt-leb _ _ (c .before .if2 .left), lt-ltb _ _ (c .if3 .taken)), omega arith)
-
-sub-result : tie.Need-sub-result
-sub-result c = search needs
-
-returns-4 : tie.Need-returns-4
-unfolding digitOf
-returns-4 c = (simp (le-ltb _ _ (c .before .before .before .if1 .left), lt-leb _ _ (c .before .before .if2 .left), le-ltb _ _ (c .before .if3 .left), le-leb _ _ (c .if4 .taken)), omega arith)
-
-returns-5 : tie.Need-returns-5
-unfolding digitOf
-returns-5 c = (simp (le-ltb _ _ (c .before .before .before .if1 .left), lt-leb _ _ (c .before .before .if2 .left), le-ltb _ _ (c .before .if3 .left), lt-leb _ _ (c .if4 .left)), omega arith)
+returns-2 c = other-of _ (c .before .before .read-digit .ensures) (c .enum-told .given .1)
 
 pub digit-spec : {M : Type 1} → statement M
-digit-spec = tie.close (tie.spec returns returns-2 returns-3 sub-result returns-4 returns-5)
+digit-spec = tie.close (tie.spec read-digit-requires enum-known-value enum-told returns returns-2)

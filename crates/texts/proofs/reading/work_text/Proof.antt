@@ -1,12 +1,13 @@
 -- `texts::reading::work_text` meets its contract: the invariants say that what is left of the text, from the frames kept so far, gives the answer of the whole.
-use Prim.Native.Nat.{ℕ, _+_, _-_, _≤_}
-use mathlib.Core.Path.{_≡_, refl, sym, ap, _∙_}
+use Prim.Native.Nat.{_+_, _-_, _≤_}
+use mathlib.Core.Path.{refl, sym, _∙_}
 use mathlib.Core.Logic.{⊎-elim}
 use lib.ListN.{length}
 use Rattle.texts.proofs.Worked.{text-worked}
 use lib.Seq.{length-take-le}
 use native.Mathlib.Omega.{arith}
 use borrow.Author.Needs.{needs}
+use Rattle.fields.proofs.Digits.{digit-small}
 use Rattle.texts.proofs.InLines as lines
 use Rattle.texts.proofs.InLines.{LineStart, InLine, WholeLine}
 use Rattle.texts.proofs.reading.work_text.Statement.{statement}
@@ -70,7 +71,7 @@ mul-bytes : tie.Need-mul-bytes Inv-loop μ-loop Inv-lines μ-lines
 mul-bytes c = search needs
 
 add-bytes : tie.Need-add-bytes Inv-loop μ-loop Inv-lines μ-lines
-add-bytes c = omega (arith, lines.digit-small _ (c .before .before .before .v .given .0 .0) (sym (sym (c .before .before .before .v .given .1) ∙ c .before .before .before .before .before .read-digit .ensures)))
+add-bytes c = omega (arith, digit-small _ (c .before .before .before .v .given .0 .0) (sym (sym (c .before .before .before .v .given .1) ∙ c .before .before .before .before .before .read-digit .ensures)))
 
 array-write-bytes : tie.Need-array-write-bytes Inv-loop μ-loop Inv-lines μ-lines
 array-write-bytes c = search needs
