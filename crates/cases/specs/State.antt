@@ -25,6 +25,7 @@ use Rattle.cases.specs.declared.Taken.{Taken}
 
 -- ---- the case with no frame
 
+-- noughts throughout
 unfoldable pub start : Case
 start =
     record {
@@ -97,20 +98,25 @@ caseNext c (Frame.Debit d) = withDebit c d
 
 -- ---- "taking a frame hands back the case advanced by it; a refused frame hands back the case unchanged"
 
+-- by the refusal: the next case, or the case as it was
 abbrev pub handedBack : ℕ → Case → Case → Taken
 handedBack refusal c next = record { case = cond (eqb refusal 0) next c; refusal = refusal }
 
+-- a frame taken
 unfoldable pub takenFrame : Case → Frame → Taken
 takenFrame c f = handedBack (caseRefusal c f) c (caseNext c f)
 
+-- the refusal of a frame as it is offered
 unfoldable pub refusalOfCase : Case → Decoded → ℕ
 refusalOfCase c (Decoded.Frame f) = caseRefusal c f
 refusalOfCase c (Decoded.Refused number) = number
 
+-- what it makes of a case
 unfoldable pub nextOfCase : Case → Decoded → Case
 nextOfCase c (Decoded.Frame f) = caseNext c f
 nextOfCase c (Decoded.Refused number) = c
 
+-- a frame as it is offered, taken
 unfoldable pub takenDecoded : Case → Decoded → Taken
 takenDecoded c d = record { case = tried refusalOfCase nextOfCase c d; refusal = refusalOfCase c d }
 
@@ -133,6 +139,7 @@ outcomeOf c =
 
 -- ---- how large the numbers of a case are: what the methods below the public ones ask
 
+-- the bounds of all that a case holds
 pub record Bounds (c : Case) : Type 0 where
   pub posts : Held (c .posts)
   pub service : ServiceBounds (c .service)

@@ -16,6 +16,7 @@ pub record FoundBounds (f : Found) : Type 0 where
   pub pension : f .pension ≤ 1000
   pub lump : f .lump ≤ 1000
 
+-- of both schemes
 pub record DatedBounds (d : Dated) : Type 0 where
   pub factor2015 : FoundBounds (d .factor2015)
   pub factor1995 : FoundBounds (d .factor1995)
