@@ -3,6 +3,7 @@ use measures::Answer;
 use measures::Pence;
 ghost use mathlib.Core.Path.{_≡_};
 ghost use Prim.Native.Nat.{_-_, _^_, _≤_, _<_, min, max};
+ghost use Rattle.measures.specs.Answers.{refusalOf, amountOf, numberUnless};
 ghost use Rattle.benefits.specs.Steps.{revalued, accrued, afterYear, bestPay, sectionPension, lumpSum, reduced, pensionDebit, lumpDebit, payIn, controlled, raised, allowanceIn, allowedFrom, allowedIn, excess, chargeFrom, charge, abatement, paysWithin, termsWithin, finalPayRefusal, abatementRefusal, chargeAnswer, abatementAnswer};
 ghost use Rattle.benefits.specs.Bounds.{FinalPayBounds};
 
@@ -357,7 +358,9 @@ pub fn abatement_refusal(pension: Pence, earned: Pence, previous: Pence, new: Pe
 
 // The charge apart from a case.
 pub fn charge_call(f: FinalPay) -> Answer
-    ensures { λ r. ⌜ r ≡ chargeAnswer f ⌝ }
+    ensures answer { λ r. ⌜ r ≡ chargeAnswer f ⌝ }
+    ensures refusal { λ r. ⌜ refusalOf r ≡ finalPayRefusal f ⌝ }
+    ensures number { λ r. ⌜ amountOf r ≡ numberUnless (finalPayRefusal f) (charge f) ⌝ }
 {
     let refusal = final_pay_refusal(f);
     if refusal != 0 {
@@ -368,7 +371,9 @@ pub fn charge_call(f: FinalPay) -> Answer
 
 // Abatement apart from a case.
 pub fn abatement_call(pension: Pence, earned: Pence, previous: Pence, new: Pence) -> Answer
-    ensures { λ r. ⌜ r ≡ abatementAnswer (pension .0) (earned .0) (previous .0) (new .0) ⌝ }
+    ensures answer { λ r. ⌜ r ≡ abatementAnswer (pension .0) (earned .0) (previous .0) (new .0) ⌝ }
+    ensures refusal { λ r. ⌜ refusalOf r ≡ abatementRefusal (pension .0) (earned .0) (previous .0) (new .0) ⌝ }
+    ensures number { λ r. ⌜ amountOf r ≡ numberUnless (abatementRefusal (pension .0) (earned .0) (previous .0) (new .0)) (abatement (pension .0) (earned .0) (previous .0) (new .0)) ⌝ }
 {
     let refusal = abatement_refusal(pension, earned, previous, new);
     if refusal != 0 {

@@ -72,7 +72,8 @@ pub extern "C" fn canyonsieve_posts(posts: &[u8], parts: &mut [u64]) -> Figure
     ensures number { λ r. ⌜ r .number ≡ numberUnless (callRefusal (now (posts .entry)) (length (now (parts .entry)))) (aggregatePay (postsIn (now (posts .entry)))) ⌝ }
     ensures places { λ r. ⌜ now (parts .exit) ≡ placesAfter (now (posts .entry)) (now (parts .entry)) ⌝ }
 {
-    figure_of(posts_call(posts, parts))
+    let answer = posts_call(posts, parts);
+    figure_of(answer)
 }
 
 // Months early between a birth and a retirement.

@@ -1,8 +1,10 @@
 -- What the methods of the running case promise, from the equations of the code with the state; demand 3 for the running case.
 use Prim.Native.Nat.{ℕ}
+use mathlib.Core.Bool.{Bool, true, false, cond}
 use mathlib.Core.Path.{_≡_, refl, sym, _∙_, ap, subst}
 use mathlib.Core.List.{List, [], _∷_, _++_}
 use native.Mathlib.Omega.{arith}
+use lib.Dec.{eqb}
 use Rattle.measures.specs.Tries.{tried, after}
 use Rattle.measures.proofs.Trying.{tried-refused}
 use Rattle.posts.proofs.Standing.{stand-worked}
@@ -58,9 +60,13 @@ pub frame-taken : (c : Case) (f : Frame) → takenFrame c f ≡ takenDecoded c (
 unfolding takenFrame takenDecoded refusalOfCase nextOfCase tried
 frame-taken c f = refl
 
-pub no-frame-taken : (c : Case) (number : ℕ) → number ≡ 3 → record { case = c; refusal = 3 } ≡ takenDecoded c (Decoded.Refused number)
+pub no-frame-taken : (c : Case) (refusal number : ℕ) → refusal ≡ number → record { case = c; refusal = refusal } ≡ takenDecoded c (Decoded.Refused number)
 unfolding takenDecoded refusalOfCase nextOfCase tried
-no-frame-taken c number e = rw e refl
+no-frame-taken c refusal number e = by (eqb number 0)
+  where
+    by : (t : Bool) → _≡_ {A = Taken} (record { case = c; refusal = refusal }) (record { case = cond t c c; refusal = number })
+    by true = rw e refl
+    by false = rw e refl
 
 pub taken-from : (c : Case) (d : Decoded) (t : Taken) → IsCase c → t ≡ takenDecoded c d → TakenFrom c d t
 unfolding takenDecoded

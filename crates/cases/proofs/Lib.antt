@@ -5,3 +5,4 @@ pub mod Answer
 pub mod Widths
 pub mod Contracts
 pub mod TakingLaws
+pub mod Whole

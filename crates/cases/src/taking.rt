@@ -9,6 +9,7 @@ use frames::Frame;
 use frames::Member;
 use frames::Year;
 use frames::decode;
+use frames::refusal_in;
 use measures::Months;
 use measures::Pence;
 use posts::Post;
@@ -143,9 +144,10 @@ impl Case {
                 refusal,
             };
         }
+        let posts = self.posts.joined(x);
         let mut next = self;
         next.stage = YEARS;
-        next.posts = self.posts.joined(x);
+        next.posts = posts;
         Taken {
             case: next,
             refusal: 0,
@@ -189,10 +191,11 @@ impl Case {
             scheme: f.scheme,
             months,
         };
+        let dated = dated_by(self.dated, f);
         let mut next = self;
         next.stage = FACTORS;
         next.previous = previous;
-        next.dated = dated_by(self.dated, f);
+        next.dated = dated;
         Taken {
             case: next,
             refusal: 0,
@@ -252,10 +255,12 @@ impl Case {
         requires { ⌜ IsCase self ⌝ }
         ensures { λ r. ⌜ TakenFrom self (decoded (now (bytes .entry))) r ⌝ }
     {
-        let Decoded::Frame(frame) = decode(bytes) else {
+        let read = decode(bytes);
+        let Decoded::Frame(frame) = read else {
+            let number = refusal_in(read);
             return Taken {
                 case: self,
-                refusal: 3,
+                refusal: number,
             };
         };
         self.step(frame)

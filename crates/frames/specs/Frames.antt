@@ -74,6 +74,10 @@ frameLength kind =
     (cond (eqb kind 6) (1 + 1 + 4 + 2)
     0)))))
 
+-- the bytes of the longest frame, the 04
+abbrev pub longestFrame : ℕ
+longestFrame = 28
+
 -- "A frame is one of six kinds and carries its own fields"; "3, unknown kind"
 unfoldable pub frameOf : ℕ → List ℕ → Decoded
 frameOf kind bytes =
@@ -88,3 +92,8 @@ frameOf kind bytes =
 -- "3, unknown kind or wrong length"
 unfoldable pub decoded : List ℕ → Decoded
 decoded bytes = cond (eqb (length bytes) (frameLength (kindOf bytes))) (frameOf (kindOf bytes) bytes) (Decoded.Refused 3)
+
+-- the refusal of what bytes decode to, 0 for a frame
+unfoldable pub refusalIn : Decoded → ℕ
+refusalIn (Decoded.Frame frame) = 0
+refusalIn (Decoded.Refused number) = number

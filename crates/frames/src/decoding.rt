@@ -16,7 +16,7 @@ use posts::post_at;
 ghost use mathlib.Core.Path.{_≡_};
 ghost use Prim.Native.Nat.{_+_, _≤_};
 ghost use lib.ListN.{length};
-ghost use Rattle.frames.specs.Frames.{dateAt, memberIn, yearIn, finalPayIn, factorIn, debitIn, frameLength, frameOf, decoded};
+ghost use Rattle.frames.specs.Frames.{dateAt, memberIn, yearIn, finalPayIn, factorIn, debitIn, frameLength, frameOf, decoded, refusalIn};
 
 // The date whose 4 bytes begin at a place.
 fn date_at(bytes: &[u8], at: usize) -> Date
@@ -150,4 +150,14 @@ pub fn decode(bytes: &[u8]) -> Decoded
         return Decoded::Refused(3);
     }
     frame_of(kind, bytes)
+}
+
+// The refusal of what bytes decode to, 0 for a frame.
+pub fn refusal_in(read: Decoded) -> u64
+    ensures { λ r. ⌜ r ≡ refusalIn read ⌝ }
+{
+    match read {
+        Decoded::Frame(_) => 0,
+        Decoded::Refused(number) => number,
+    }
 }

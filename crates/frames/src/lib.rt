@@ -9,10 +9,14 @@ mod decoding;
 mod limits;
 
 pub use decoding::decode;
+pub use decoding::refusal_in;
 pub use limits::debit_refusal;
 pub use limits::factor_refusal;
 pub use limits::member_refusal;
 pub use limits::year_stands;
+
+// The bytes of the longest frame, the 04.
+pub const LONGEST_FRAME: usize = 28;
 
 // A member: birth and retirement, the section (0 none, 1 the 1995), the pension age in years.
 pub struct Member {

@@ -1,15 +1,15 @@
--- The posts call: reading the posts one by one, writing the lent places, and the tests of the lengths.
+-- The posts call: reading the posts one by one, the tests of the lengths, and what the call gives.
 use mathlib.Core.Path.{_≡_, refl, sym, _∙_, ap}
 use mathlib.Core.List.{List, [], _∷_, _++_, append-assoc}
 use Prim.Native.Nat.{ℕ, zero, suc, _+_, _*_, _-_, _/_, _%_, _≤_, _<_}
 use native.Mathlib.Numerals.{add-one}
 use native.Mathlib.Omega.{arith}
-use lib.ListN.{length, getD, take, drop, set}
-use lib.Seq.{drop-cons, set-at, append-snoc, take-suc, length-take-le}
+use lib.ListN.{length, drop}
 use borrow.Author.Tests.{eq-eqb, ne-eqb, le-leb, lt-leb}
 use Rattle.measures.specs.declared.Pence.{Pence}
 use Rattle.measures.specs.declared.Answer.{Answer}
-use Rattle.measures.specs.Answers.{answerOf}
+use Rattle.measures.specs.Answers.{amountOf, refusalOf, answerOf, numberUnless}
+use Rattle.measures.proofs.Answering.{answered}
 use Rattle.measures.specs.Refusals.{first}
 use Rattle.posts.specs.declared.Post.{Post}
 use Rattle.posts.specs.declared.YearPosts.{YearPosts}
@@ -94,17 +94,6 @@ unfolding postsFrom
 from-length bytes i zero = refl
 from-length bytes i (suc n) = ap suc (from-length bytes (suc i) n)
 
--- ---- writing
-
--- a turn of a loop that copies s into the first places of d
-pub write-turn : (s d : List ℕ) (i : ℕ) → i < length s → i < length d → set (take i s ++ drop i d) i (getD s i 0) ≡ take (i + 1) s ++ drop (i + 1) d
-write-turn s d i hs hd =
-    rw add-one
-    (ap (λ (r : List ℕ). set (take i s ++ r) i (getD s i 0)) (drop-cons d i 0 hd)
-    ∙ set-at (take i s) (getD d i 0) (drop (suc i) d) (getD s i 0) i (length-take-le i s (omega arith))
-    ∙ sym (append-snoc (take i s) (getD s i 0) (drop (suc i) d))
-    ∙ ap (λ (r : List ℕ). r ++ drop (suc i) d) (sym (take-suc s i 0 hs)))
-
 -- ---- the tests of the lengths, in their order
 
 module _ (posts places : ℕ) where
@@ -143,12 +132,25 @@ module _ (bytes : List ℕ) where
 
 -- ---- what the call gives and leaves, by its refusal
 
+-- what the contract says of an answer and of the places after the call
+abbrev Given : List ℕ → List ℕ → Answer → List ℕ → Type 0
+Given bytes places a after =
+    (a ≡ callAnswer bytes (length places))
+    × ((refusalOf a ≡ callRefusal bytes (length places))
+    × ((amountOf a ≡ numberUnless (callRefusal bytes (length places)) (aggregatePay (postsIn bytes)))
+    × (after ≡ placesAfter bytes places)))
+
 module _ (bytes places : List ℕ) (r : ℕ) (e : callRefusal bytes (length places) ≡ r) where
-  pub call-refused : (r ≡ 0 → ⊥) → (Answer.Refused r ≡ callAnswer bytes (length places)) × (places ≡ placesAfter bytes places)
+  -- the four promises, from the equations of the answer and of the places
+  given : (a : Answer) (after : List ℕ) → a ≡ callAnswer bytes (length places) → after ≡ placesAfter bytes places → Given bytes places a after
+  unfolding callAnswer
+  given a after f g = let p = answered (callRefusal bytes (length places)) (aggregatePay (postsIn bytes)) a f in (p .0, (p .1 .0, (p .1 .1, g)))
+
+  pub call-refused : (r ≡ 0 → ⊥) → Given bytes places (Answer.Refused r) places
   unfolding callAnswer placesAfter placesUnless answerOf
-  call-refused n = (rw (e, ne-eqb _ _ n) refl, rw (e, ne-eqb _ _ n) refl)
+  call-refused n = given _ _ (rw (e, ne-eqb _ _ n) refl) (rw (e, ne-eqb _ _ n) refl)
 
   pub call-accepted : r ≡ 0 → (a : Pence) (after : List ℕ) → a .0 ≡ aggregatePay (postsIn bytes) → after ≡ parts (postsIn bytes) ++ drop (length (postsIn bytes)) places
-      → (Answer.Amount a ≡ callAnswer bytes (length places)) × (after ≡ placesAfter bytes places)
+      → Given bytes places (Answer.Amount a) after
   unfolding callAnswer placesAfter placesUnless answerOf
-  call-accepted z a after f g = (rw (e, z, ← f) refl, rw (e, z) g)
+  call-accepted z a after f g = given _ _ (rw (e, z, ← f) refl) (rw (e, z) g)

@@ -8,7 +8,7 @@ use native.Mathlib.Numerals.{add-one}
 use native.Mathlib.Omega.{arith}
 use lib.Dec.{ltb}
 use lib.ListN.{length, take, drop, getD, set, length-set, drop-of-length-le}
-use lib.Seq.{drop-cons, getD-take, take-suc, take-suc-set, take-all}
+use lib.Seq.{drop-cons, set-at, append-snoc, getD-take, take-suc, take-all, length-take-le}
 use borrow.Author.Tests.{ltb-true, ltb-false, le-ltb}
 use Rattle.measures.specs.Rounding.{rounded}
 use Rattle.posts.specs.declared.Post.{Post}
@@ -18,7 +18,7 @@ use Rattle.posts.specs.Posts.{h, p, contractedMinutes, weightedParts, cl
 use Rattle.posts.specs.Rates.{rankedBefore}
 use Rattle.posts.specs.Sums.{minutesAhead}
 use Rattle.posts.specs.Paid.{paid}
-use Rattle.posts.specs.Year.{noPost, postsOf, Held}
+use Rattle.posts.specs.Year.{noPost, noParts, postsOf, Held}
 use Rattle.posts.proofs.Aggregate.{aggregate-closed, parts-within}
 use Rattle.posts.proofs.Ranking.{division-at}
 use Rattle.posts.proofs.Standing.{stand-worked, posts-count}
@@ -153,6 +153,17 @@ paid-turn : (H : ℕ) (xs : List Post) (qs : List ℕ) (i : ℕ) → i < length 
 unfolding paid
 paid-turn H xs qs i g k = rw (add-one, drop-cons xs i noPost g, drop-cons qs i 0 k) refl
 
+-- ---- writing
+
+-- a turn of a loop that copies s into the first places of d
+pub write-turn : (s d : List ℕ) (i : ℕ) → i < length s → i < length d → set (take i s ++ drop i d) i (getD s i 0) ≡ take (i + 1) s ++ drop (i + 1) d
+write-turn s d i hs hd =
+    rw add-one
+    (ap (λ (r : List ℕ). set (take i s ++ r) i (getD s i 0)) (drop-cons d i 0 hd)
+    ∙ set-at (take i s) (getD d i 0) (drop (suc i) d) (getD s i 0) i (length-take-le i s (omega arith))
+    ∙ sym (append-snoc (take i s) (getD s i 0) (drop (suc i) d))
+    ∙ ap (λ (r : List ℕ). r ++ drop (suc i) d) (sym (take-suc s i 0 hs)))
+
 -- ---- the same for a year, as the code reads it
 
 -- what the posts from place i on are paid
@@ -163,7 +174,7 @@ paidFrom y i = paid (y .minutes .0) (claims (y .minutes .0) (drop i (postsOf y))
 pub record Upto (y : YearPosts) (out : List ℕ) (pay i : ℕ) : Type 0 where
   pub within : i ≤ y .count
   pub room : length out ≡ 16
-  pub written : take i out ≡ take i (parts (postsOf y))
+  pub written : out ≡ take i (parts (postsOf y)) ++ drop i noParts
   pub most : pay ≤ 1000000000 * i
   pub earned : pay + paidFrom y i ≡ aggregatePay (postsOf y)
 
@@ -210,8 +221,8 @@ module _ (y : YearPosts) (held : Held y) where
   paid-all : paidFrom y 0 ≡ aggregatePay (postsOf y)
   paid-all = rw (held .minutes) (sym (aggregate-closed (postsOf y) (stand-worked (postsOf y) (held .stand))))
 
-  pub upto-start : (out : List ℕ) → length out ≡ 16 → Upto y out 0 0
-  upto-start out room = record { within = omega arith; room = room; written = refl; most = omega arith; earned = omega (arith, paid-all) }
+  pub upto-start : Upto y noParts 0 0
+  upto-start = record { within = omega arith; room = refl; written = refl; most = omega arith; earned = omega (arith, paid-all) }
 
   pub upto-turn : (out : List ℕ) (pay i part earned : ℕ) → Upto y out pay i → i < y .count → part ≡ getD (parts (postsOf y)) i 0
       → earned ≡ rounded (part * p (getD (y .list) i noPost)) (h (getD (y .list) i noPost) * y .minutes .0) → earned ≤ 1000000000
@@ -221,18 +232,18 @@ module _ (y : YearPosts) (held : Held y) where
         within = omega arith;
         room = simp length-set (u .room);
         written =
-            rw add-one
-            (take-suc-set out i part (omega (arith, u .room, held .few))
-            ∙ ap₂ (λ (l : List ℕ) (x : ℕ). l ++ (x ∷ [])) (u .written) e
-            ∙ sym (take-suc (parts (postsOf y)) i 0 (omega (arith, count, parts-length (postsOf y)))));
+            ap₂ (λ (l : List ℕ) (x : ℕ). set l i x) (u .written) e
+            ∙ write-turn (parts (postsOf y)) noParts i (omega (arith, count, parts-length (postsOf y))) (omega (arith, held .few));
         most = omega (arith, u .most);
         earned =
             omega (arith, u .earned, paid-front i g, f ∙ ap (λ (q : ℕ). rounded (q * p (getD (y .list) i noPost)) (h (getD (y .list) i noPost) * y .minutes .0)) e);
       }
 
-  pub upto-end : (out : List ℕ) (pay i : ℕ) → Upto y out pay i → y .count ≤ i → (take (y .count) out ≡ parts (postsOf y)) × (pay ≡ aggregatePay (postsOf y))
+  pub upto-end : (out : List ℕ) (pay i : ℕ) → Upto y out pay i → y .count ≤ i → (out ≡ parts (postsOf y) ++ drop (y .count) noParts) × (pay ≡ aggregatePay (postsOf y))
   upto-end out pay i u g = (
-    ap (λ (k : ℕ). take k out) (sym here) ∙ u .written ∙ ap (λ (k : ℕ). take k (parts (postsOf y))) here ∙ take-all (y .count) (parts (postsOf y)) (omega (arith, count, parts-length (postsOf y))),
+    u .written
+        ∙ ap (λ (k : ℕ). take k (parts (postsOf y)) ++ drop k noParts) here
+        ∙ ap (λ (l : List ℕ). l ++ drop (y .count) noParts) (take-all (y .count) (parts (postsOf y)) (omega (arith, count, parts-length (postsOf y)))),
     omega (arith, u .earned, paid-past i g),
   )
     where

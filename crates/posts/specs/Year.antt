@@ -1,9 +1,9 @@
 -- The posts of a year as the code holds them: an array with a count, and beside it H, K and whether a post is whole-time.
-use Prim.Native.Nat.{_+_, _*_, _≤_}
+use Prim.Native.Nat.{ℕ, _+_, _*_, _≤_}
 use mathlib.Core.Path.{_≡_}
 use mathlib.Core.Bool.{true, false, cond}
-use mathlib.Core.List.{List, [], _∷_}
-use lib.ListN.{length, take, set, replicate}
+use mathlib.Core.List.{List, [], _∷_, _++_}
+use lib.ListN.{length, take, drop, set, replicate}
 use Rattle.posts.specs.declared.Post.{Post}
 use Rattle.posts.specs.declared.YearPosts.{YearPosts}
 use Rattle.posts.specs.declared.Allocation.{Allocation}
@@ -48,9 +48,13 @@ joinedBy y x =
       whole = cond (y .whole) true (wholeTime x);
     }
 
--- the parts of each post and the aggregate pay
+-- no parts in any of the sixteen places
+abbrev pub noParts : List ℕ
+noParts = replicate 16 0
+
+-- the parts of each post, noughts in the places past the last, and the aggregate pay
 pub record Allocated (y : YearPosts) (a : Allocation) : Type 0 where
-  pub parts : take (y .count) (a .parts) ≡ parts (postsOf y)
+  pub parts : a .parts ≡ parts (postsOf y) ++ drop (y .count) noParts
   pub aggregate : a .aggregate .0 ≡ aggregatePay (postsOf y)
 
 -- posts read up to the first that is refused

@@ -11,7 +11,8 @@ ghost use mathlib.Core.List.{_++_};
 ghost use Prim.Native.Nat.{_+_, _*_, _≤_};
 ghost use lib.ListN.{length, take, drop};
 ghost use Rattle.posts.specs.Posts.{parts, aggregatePay};
-ghost use Rattle.posts.specs.Call.{postAt, postsFrom, callAnswer, placesAfter};
+ghost use Rattle.measures.specs.Answers.{refusalOf, amountOf, numberUnless};
+ghost use Rattle.posts.specs.Call.{postAt, postsFrom, postsIn, callRefusal, callAnswer, placesAfter};
 ghost use Rattle.posts.specs.Year.{postsOf, Held, ReadPosts};
 
 // The post whose 8 bytes begin at a place.
@@ -80,7 +81,10 @@ pub fn allocate_into(year: YearPosts, places: &mut [u64]) -> Pence
 
 // The posts of a year in bytes: the aggregate pay, and each post's parts in the lent places.
 pub fn posts_call(bytes: &[u8], places: &mut [u64]) -> Answer
-    ensures { λ r. ⌜ (r ≡ callAnswer (now (bytes .entry)) (length (now (places .entry)))) × (now (places .exit) ≡ placesAfter (now (bytes .entry)) (now (places .entry))) ⌝ }
+    ensures answer { λ r. ⌜ r ≡ callAnswer (now (bytes .entry)) (length (now (places .entry))) ⌝ }
+    ensures refusal { λ r. ⌜ refusalOf r ≡ callRefusal (now (bytes .entry)) (length (now (places .entry))) ⌝ }
+    ensures number { λ r. ⌜ amountOf r ≡ numberUnless (callRefusal (now (bytes .entry)) (length (now (places .entry)))) (aggregatePay (postsIn (now (bytes .entry)))) ⌝ }
+    ensures places { λ r. ⌜ now (places .exit) ≡ placesAfter (now (bytes .entry)) (now (places .entry)) ⌝ }
 {
     let length = bytes.len();
     if length % 8 != 0 {

@@ -33,15 +33,13 @@ pub fn compare_rates(x: Post, y: Post) -> Comparison
     Comparison::Equal
 }
 
-// Whether y goes before x: at a higher rate, or at an equal one where y is the earlier in the list.
+// Whether y goes before x: at a higher rate, or at an equal one where y is the earlier in the list. It is asked of every two posts of a
+// year, in no order that a processor could foresee, so it has no branch.
 pub fn goes_before(x: Post, earlier: bool, y: Post) -> bool
     requires { ⌜ (postStands x ≡ true) × (postStands y ≡ true) ⌝ }
     ensures { λ r. ⌜ r ≡ rankedBefore x earlier y ⌝ }
 {
-    let rates = compare_rates(y, x);
-    match rates {
-        Comparison::Higher => true,
-        Comparison::Equal => earlier,
-        Comparison::Lower => false,
-    }
+    let own = pay_times(y.pay, x.contracted);
+    let other = pay_times(x.pay, y.contracted);
+    (other < own) | (earlier & (other == own))
 }

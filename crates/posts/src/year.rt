@@ -65,10 +65,10 @@ fn in_parts(minutes: Minutes, total: Minutes) -> u64
 }
 
 // The minutes of a post that counts, else none.
-fn counted(counts: bool, minutes: Minutes) -> u64
-    ensures { λ r. ⌜ r ≡ cond counts (minutes .0) 0 ⌝ }
+fn counted(counts: bool, minutes: Minutes) -> Minutes
+    ensures { λ r. ⌜ r .0 ≡ cond counts (minutes .0) 0 ⌝ }
 {
-    if counts { minutes.0 } else { 0 }
+    if counts { minutes } else { Minutes(0) }
 }
 
 // All of a post's parts, or what is left of the limit.
@@ -171,14 +171,14 @@ impl YearPosts {
     {
         let n = self.count;
         let x = self.list[at];
-        let mut minutes: u64 = 0;
+        let mut minutes = Minutes(0);
         let mut i: usize = 0;
         while i < n {
             let y = self.list[i];
-            minutes += counted(goes_before(x, i < at, y), y.contracted);
+            minutes.0 += counted(goes_before(x, i < at, y), y.contracted).0;
             i += 1;
         }
-        Minutes(minutes)
+        minutes
     }
 
     // The parts of the post at a place.
@@ -203,18 +203,15 @@ impl YearPosts {
         let n = self.count;
         let total = self.minutes;
         let mut parts = [0u64; 16];
-        let mut pay: u64 = 0;
+        let mut aggregate = Pence(0);
         let mut i: usize = 0;
         while i < n {
             let part = self.part_of(i);
             let earned = pay_for(self.list[i], part, total);
             parts[i] = part;
-            pay += earned.0;
+            aggregate.0 += earned.0;
             i += 1;
         }
-        Allocation {
-            parts,
-            aggregate: Pence(pay),
-        }
+        Allocation { parts, aggregate }
     }
 }

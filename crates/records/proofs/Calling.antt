@@ -14,6 +14,7 @@ use Rattle.measures.specs.declared.Answer.{Answer}
 use Rattle.measures.specs.Answers.{answerOf}
 use Rattle.measures.specs.Refusals.{unless, first}
 use Rattle.measures.proofs.Tests.{passed, neither}
+use Rattle.measures.proofs.Answering.{answered}
 use Rattle.posts.specs.declared.Post.{Post}
 use Rattle.posts.specs.declared.YearPosts.{YearPosts}
 use Rattle.posts.specs.Posts.{parts, aggregatePay}
@@ -23,7 +24,7 @@ use Rattle.posts.specs.Year.{noPost, noPosts, postsOf, Held, joinedBy}
 use Rattle.posts.proofs.Standing.{held-joined, posts-joined}
 use Rattle.posts.proofs.Calling.{held-none}
 use Rattle.records.specs.declared.Reading.{Reading}
-use Rattle.records.specs.Records.{recordsAnswer, recordsPlaces}
+use Rattle.records.specs.Records.{recordsAnswer, recordsPlaces, RecordsGiven}
 use Rattle.records.specs.Reading.{begun, refusalOn, readOn, Finishing, Ended}
 
 -- ---- refusals tried in order
@@ -147,7 +148,7 @@ module _ (ys : List Post) (zs : List ℕ) (s : Reading) (so : ReadTo (length ys)
   read-finishing = record { held = all .held; room = λ z. rw (all .posts z) (fits z) }
 
   -- the definitions' answer and places are those after the last record
-  pub read-end : Ended s zs (recordsAnswer ys (length zs)) (recordsPlaces ys zs)
+  read-end : Ended s zs (recordsAnswer ys (length zs)) (recordsPlaces ys zs)
   unfolding recordsAnswer recordsPlaces placesUnless answerOf
   read-end = rw (← refused) (by (eqb (s .refusal) 0) refl)
     where
@@ -155,3 +156,10 @@ module _ (ys : List Post) (zs : List ℕ) (s : Reading) (so : ReadTo (length ys)
           × (cond t (parts ys ++ drop (length ys) zs) zs ≡ cond t (parts (postsOf (s .year)) ++ drop (length (postsOf (s .year))) zs) zs)
       by true e = rw (all .posts (eqb-true _ 0 e)) (refl, refl)
       by false e = (refl, refl)
+
+  -- so the answer and the places after the last record are what the call promises
+  pub read-given : (r : Answer) (after : List ℕ) → Ended s zs r after → RecordsGiven ys zs r after
+  unfolding recordsAnswer
+  read-given r after e =
+      let a = answered (lentRefusal ys (length zs)) (aggregatePay ys) r (e .0 ∙ sym (read-end .0)) in
+      record { answer = a .0; refusal = a .1 .0; number = a .1 .1; places = e .1 ∙ sym (read-end .1) }

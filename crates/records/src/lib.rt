@@ -7,7 +7,7 @@ ghost use mathlib.Core.Path.{_≡_};
 ghost use Prim.Native.Nat.{_≤_, min};
 ghost use lib.ListN.{length, take};
 ghost use Rattle.posts.specs.Year.{Held};
-ghost use Rattle.records.specs.Records.{recordsAnswer, recordsPlaces};
+ghost use Rattle.records.specs.Records.{RecordsGiven};
 ghost use Rattle.records.specs.Reading.{begun, readOn, Finishing, Ended};
 
 // The posts read so far, and the refusal, 0 for none. After a refusal no post is taken.
@@ -64,7 +64,7 @@ fn finished(read: Reading, places: &mut [u64]) -> Answer
 
 // The posts of a year as a list of records: the aggregate pay, and each post's parts in the lent places.
 pub fn records_call(list: &[Post], places: &mut [u64]) -> Answer
-    ensures { λ r. ⌜ (r ≡ recordsAnswer (now (list .entry)) (length (now (places .entry)))) × (now (places .exit) ≡ recordsPlaces (now (list .entry)) (now (places .entry))) ⌝ }
+    ensures { λ r. ⌜ RecordsGiven (now (list .entry)) (now (places .entry)) r (now (places .exit)) ⌝ }
 {
     let n = list.len();
     let mut read = begun(n, places.len());
@@ -79,14 +79,14 @@ pub fn records_call(list: &[Post], places: &mut [u64]) -> Answer
 // The call on the first n posts of an array.
 fn front_call(list: [Post; 17], n: usize, places: &mut [u64]) -> Answer
     requires { ⌜ n ≤ 17 ⌝ }
-    ensures { λ r. ⌜ (r ≡ recordsAnswer (take n list) (length (now (places .entry)))) × (now (places .exit) ≡ recordsPlaces (take n list) (now (places .entry))) ⌝ }
+    ensures { λ r. ⌜ RecordsGiven (take n list) (now (places .entry)) r (now (places .exit)) ⌝ }
 {
     records_call(&list[..n], places)
 }
 
 // The same for any n, for a caller that has no list to lend: 17 posts at most.
 pub fn records_front_call(list: [Post; 17], n: usize, places: &mut [u64]) -> Answer
-    ensures { λ r. ⌜ (r ≡ recordsAnswer (take (min n 17) list) (length (now (places .entry)))) × (now (places .exit) ≡ recordsPlaces (take (min n 17) list) (now (places .entry))) ⌝ }
+    ensures { λ r. ⌜ RecordsGiven (take (min n 17) list) (now (places .entry)) r (now (places .exit)) ⌝ }
 {
     if 17 < n {
         return front_call(list, 17, places);

@@ -6,7 +6,7 @@ use mathlib.Core.Option.{Option, none, some}
 use lib.Dec.{ltb, eqb}
 use lib.ListN.{length}
 use Rattle.measures.specs.Refusals.{unless, first}
-use Rattle.measures.specs.Tries.{after, meant}
+use Rattle.measures.specs.Tries.{tried, after, meant}
 use Rattle.posts.specs.declared.Post.{Post}
 use Rattle.posts.specs.Refusals.{postRefusal}
 use Rattle.benefits.specs.declared.FinalPay.{FinalPay}
@@ -171,6 +171,11 @@ decodedAll (bytes ∷ raws) = decoded bytes ∷ decodedAll raws
 unfoldable pub kept : List Decoded → Kept
 kept ds = after refusalOfDecoded keepDecoded nothing ds
 
--- the same frames as a list
+-- the refusal of each frame of a list, 0 for none, "each tried after the frames so kept before it"
+unfoldable pub refusalsFrom : Kept → List Decoded → List ℕ
+refusalsFrom k [] = []
+refusalsFrom k (d ∷ ds) = refusalOfDecoded k d ∷ refusalsFrom (tried refusalOfDecoded keepDecoded k d) ds
+
+-- the frames meant as a list
 unfoldable pub framesMeant : List Decoded → List Decoded
 framesMeant ds = meant refusalOfDecoded keepDecoded nothing ds

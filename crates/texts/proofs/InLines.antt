@@ -1,6 +1,6 @@
 -- The reading of a text from the middle of a line on: what the rest of the text gives, where the line so far has spelled some bytes and perhaps the first
 -- digit of the next. A law for each thing that can come next.
-use Prim.Native.Nat.{ℕ, _+_, _-_, _*_, _≤_, _<_}
+use Prim.Native.Nat.{ℕ, _+_, _*_, _≤_, _<_, min}
 use mathlib.Core.Path.{_≡_, refl, sym, ap, _∙_}
 use mathlib.Core.List.{List, [], _∷_, _++_, append-assoc, append-nil}
 use mathlib.Core.Bool.{Bool, true, false, cond}
@@ -14,8 +14,8 @@ use borrow.Author.Tests.{eq-eqb, ne-eqb, le-ltb, lt-ltb}
 use Rattle.measures.specs.Tries.{after}
 use Rattle.frames.specs.declared.Frame.{Frame}
 use Rattle.frames.specs.declared.Decoded.{Decoded}
-use Rattle.frames.specs.Frames.{frameLength, kindOf, decoded}
-use Rattle.frames.proofs.Bytes.{decoded-three}
+use Rattle.frames.specs.Frames.{longestFrame, decoded, refusalIn}
+use Rattle.frames.proofs.Bytes.{decoded-three, decoded-front}
 use Rattle.rules.specs.declared.Outcome.{Outcome}
 use Rattle.rules.specs.Rules.{Kept, refusalOfDecoded, kept}
 use Rattle.cases.specs.declared.Case.{Case}
@@ -128,24 +128,6 @@ unfolding finish before joined waiting bytesOf decodedLine
 finish-line [] x ls k c s = absurd (omega arith)
 finish-line (b ∷ bs) x ls k c s = rw append-nil refl
 
--- what is longer than any frame is none
-frame-short : (kind : ℕ) → frameLength kind ≤ 28
-unfolding frameLength
-frame-short kind = by (eqb kind 1) (eqb kind 2) (eqb kind 3) (eqb kind 4) (eqb kind 5) (eqb kind 6)
-  where
-    by : (a b c d e f : Bool) → cond a 11 (cond b 5 (cond c 9 (cond d 28 (cond e 8 (cond f 8 0))))) ≤ 28
-    by true b c d e f = omega arith
-    by false true c d e f = omega arith
-    by false false true d e f = omega arith
-    by false false false true e f = omega arith
-    by false false false false true f = omega arith
-    by false false false false false true = omega arith
-    by false false false false false false = omega arith
-
-decoded-long : (bs : List ℕ) → 28 < length bs → decoded bs ≡ Decoded.Refused 3
-unfolding decoded
-decoded-long bs h = rw (ne-eqb (length bs) (frameLength (kindOf bs)) (omega (arith, frame-short (kindOf bs)))) refl
-
 module _ (text : List ℕ) (at : ℕ) (inside : at < length text) where
   lines-at : linesOf (drop at text) ≡ before (eqb (getD text at 0) 10) (getD text at 0) (linesOf (drop (at + 1) text))
   unfolding linesOf
@@ -168,18 +150,18 @@ pub record LineStart (text : List ℕ) (case : Case) (line at : ℕ) : Type 0 wh
   pub count : line ≤ at
   pub answer : workText text ≡ readFrom (kept frames) (line + 1) (framesOf (drop at text))
 
--- in a line, what is left of the text gives the answer, from the frames kept and what the line has spelled so far, of which the buffer keeps 28 bytes
+-- in a line, what is left of the text gives the answer, from the frames kept and what the line has spelled so far, of which the buffer keeps one byte more than
+-- the longest frame has
 pub record InLine (text : List ℕ) (case : Case) (line at : ℕ) (bytes : List ℕ) (n high : ℕ) : Type 0 where
   pub frames : List Decoded
   pub is : case ≡ afterAll frames
   pub spelled : List ℕ
   pub within : at ≤ length text
   pub count : line ≤ at + 1
-  pub few : n ≤ at
   pub digit : high ≤ 16
-  pub room : length bytes ≡ 28
-  pub long : length spelled ≡ n
-  pub held : take n bytes ≡ take 28 spelled
+  pub room : length bytes ≡ longestFrame + 1
+  pub long : n ≡ min (longestFrame + 1) (length spelled)
+  pub held : take n bytes ≡ take (longestFrame + 1) spelled
   pub answer : workText text ≡ finish spelled high (linesOf (drop at text)) line (kept frames)
 
 -- the case so far is a case
@@ -216,7 +198,7 @@ finish-before false x (unended cs ∷ ls) k c = finish-start (unended (x ∷ cs)
 
 -- a line begins
 pub start-line : {text : List ℕ} {case : Case} {line at : ℕ} → LineStart text case line at → at < length text
-    → (bytes : List ℕ) → length bytes ≡ 28 → InLine text case (line + 1) at bytes 0 16
+    → (bytes : List ℕ) → length bytes ≡ longestFrame + 1 → InLine text case (line + 1) at bytes 0 16
 unfolding framesOf
 start-line {text} {case} {line} {at} s h bytes r = record {
   frames = s .frames;
@@ -224,7 +206,6 @@ start-line {text} {case} {line} {at} s h bytes r = record {
   spelled = [];
   within = omega arith;
   count = omega arith;
-  few = omega arith;
   digit = omega arith;
   room = r;
   long = refl;
@@ -240,10 +221,6 @@ text-ends {text} {case} {line} {at} {high = high} i h =
     sym (i .answer ∙ ap (λ (l : List ℕ). finish (i .spelled) high (linesOf l) line (kept (i .frames))) (drop-of-length-le text h))
 
 module _ {text : List ℕ} {case : Case} {line at : ℕ} {bytes : List ℕ} {n high : ℕ} (i : InLine text case line at bytes n high) (h : at < length text) where
-  -- the bytes that the buffer keeps are those of the line
-  line-held : n ≤ 28 → take n bytes ≡ i .spelled
-  line-held f = i .held ∙ take-all 28 (i .spelled) (omega arith)
-
   -- another character
   pub other-character : (getD text at 0 ≡ 10 → ⊥) → Digit.Other ≡ digitOf (getD text at 0) → notDigits line ≡ workText text
   other-character ne d = sym (i .answer ∙ rw (lines-at-other text at h ne) (finish-other _ _ _ _ _ _ (sym d)))
@@ -257,7 +234,6 @@ module _ {text : List ℕ} {case : Case} {line at : ℕ} {bytes : List ℕ} {n h
     spelled = i .spelled;
     within = omega arith;
     count = omega arith;
-    few = omega arith;
     digit = omega (arith, digit-small _ v (sym d));
     room = i .room;
     long = i .long;
@@ -267,39 +243,38 @@ module _ {text : List ℕ} {case : Case} {line at : ℕ} {bytes : List ℕ} {n h
 
   -- the second digit of a byte, with what becomes of the buffer
   second-digit : (getD text at 0 ≡ 10 → ⊥) → (v : ℕ) → Digit.Value v ≡ digitOf (getD text at 0) → (high ≡ 16 → ⊥)
-      → (next : List ℕ) → length next ≡ 28 → take (n + 1) next ≡ take 28 (i .spelled ++ ((high * 16 + v) ∷ []))
-      → InLine text case line (at + 1) next (n + 1) 16
-  second-digit ne v d e next r k = record {
+      → (next : List ℕ) (m : ℕ) → length next ≡ longestFrame + 1 → m ≡ min (longestFrame + 1) (length (i .spelled) + 1)
+      → take m next ≡ take (longestFrame + 1) (i .spelled ++ ((high * 16 + v) ∷ []))
+      → InLine text case line (at + 1) next m 16
+  second-digit ne v d e next m r l k = record {
     frames = i .frames;
     is = i .is;
     spelled = i .spelled ++ ((high * 16 + v) ∷ []);
     within = omega arith;
     count = omega arith;
-    few = omega arith;
     digit = omega arith;
     room = r;
-    long = rw length-append (omega arith);
+    long = rw length-append l;
     held = k;
     answer = i .answer ∙ rw (lines-at-other text at h ne) (finish-second _ _ _ _ _ _ _ (sym d) (omega arith));
   }
 
   -- the byte goes into the buffer
-  pub byte-kept : (getD text at 0 ≡ 10 → ⊥) → (v : ℕ) → Digit.Value v ≡ digitOf (getD text at 0) → (high ≡ 16 → ⊥) → n < 28
+  pub byte-kept : (getD text at 0 ≡ 10 → ⊥) → (v : ℕ) → Digit.Value v ≡ digitOf (getD text at 0) → (high ≡ 16 → ⊥) → n < longestFrame + 1
       → InLine text case line (at + 1) (set bytes n (high * 16 + v)) (n + 1) 16
   byte-kept ne v d e f =
       let b = high * 16 + v in
-      second-digit ne v d e _ (rw length-set (i .room))
-      (rw add-one (take-suc-set bytes n b (omega arith))
-      ∙ ap (λ (l : List ℕ). l ++ (b ∷ [])) (line-held (omega arith))
-      ∙ sym (take-all 28 (i .spelled ++ (b ∷ [])) (rw length-append (omega arith))))
+      second-digit ne v d e _ (n + 1) (rw length-set (i .room)) (omega (arith, i .long))
+      (rw add-one (take-suc-set bytes n b (omega (arith, i .room)))
+      ∙ ap (λ (l : List ℕ). l ++ (b ∷ [])) (i .held ∙ take-all (longestFrame + 1) (i .spelled) (omega (arith, i .long)))
+      ∙ sym (take-all (longestFrame + 1) (i .spelled ++ (b ∷ [])) (rw length-append (omega (arith, i .long)))))
 
-  -- the buffer is full: the byte only counts
-  pub byte-counted : (getD text at 0 ≡ 10 → ⊥) → (v : ℕ) → Digit.Value v ≡ digitOf (getD text at 0) → (high ≡ 16 → ⊥) → 28 ≤ n
-      → InLine text case line (at + 1) bytes (n + 1) 16
-  byte-counted ne v d e f =
-      second-digit ne v d e _ (i .room)
-      (take-all (n + 1) bytes (omega arith) ∙ sym (take-all n bytes (omega arith)) ∙ i .held
-      ∙ sym (take-append-le 28 (i .spelled) ((high * 16 + v) ∷ []) (omega arith)))
+  -- the buffer is full: the byte is passed over
+  pub byte-passed : (getD text at 0 ≡ 10 → ⊥) → (v : ℕ) → Digit.Value v ≡ digitOf (getD text at 0) → (high ≡ 16 → ⊥) → longestFrame + 1 ≤ n
+      → InLine text case line (at + 1) bytes n 16
+  byte-passed ne v d e f =
+      second-digit ne v d e _ n (i .room) (omega (arith, i .long))
+      (i .held ∙ sym (take-append-le (longestFrame + 1) (i .spelled) ((high * 16 + v) ∷ []) (omega (arith, i .long))))
 
   -- 0A after an odd count of digits
   pub odd-line : getD text at 0 ≡ 10 → (high ≡ 16 → ⊥) → notDigits line ≡ workText text
@@ -307,54 +282,48 @@ module _ {text : List ℕ} {case : Case} {line at : ℕ} {bytes : List ℕ} {n h
 
   -- 0A after nothing
   pub empty-line : getD text at 0 ≡ 10 → high ≡ 16 → n ≡ 0 → notDigits line ≡ workText text
-  empty-line e o z = sym (i .answer ∙ rw (lines-at-end text at h e, o) (finish-empty _ _ _ _ _ (omega arith)))
+  empty-line e o z = sym (i .answer ∙ rw (lines-at-end text at h e, o) (finish-empty _ _ _ _ _ (omega (arith, i .long))))
 
--- a line is read to its 0A: what is left of the text gives the answer, from the frames kept and the bytes that the line has spelled
+-- a line is read to its 0A: what is left of the text gives the answer, from the frames kept and the bytes in the buffer
 pub record WholeLine (text : List ℕ) (case : Case) (line at : ℕ) (bytes : List ℕ) (n : ℕ) : Type 0 where
   pub frames : List Decoded
   pub is : case ≡ afterAll frames
-  pub spelled : List ℕ
   pub inside : at < length text
   pub count : line ≤ at + 1
-  pub long : length spelled ≡ n
-  pub held : n ≤ 28 → take n bytes ≡ spelled
-  pub answer : workText text ≡ readFrom (kept frames) line (decoded spelled ∷ framesOf (drop (at + 1) text))
+  pub answer : workText text ≡ readFrom (kept frames) line (decoded (take n bytes) ∷ framesOf (drop (at + 1) text))
 
--- 0A after some bytes
+-- 0A after some bytes: the decoder has the same to say of the bytes in the buffer as of all
 pub whole-line : {text : List ℕ} {case : Case} {line at : ℕ} {bytes : List ℕ} {n high : ℕ} → InLine text case line at bytes n high
     → at < length text → getD text at 0 ≡ 10 → high ≡ 16 → (n ≡ 0 → ⊥) → WholeLine text case line at bytes n
 unfolding framesOf
 whole-line {text} {case} {line} {at} {bytes} {n} {high} i h e o z = record {
   frames = i .frames;
   is = i .is;
-  spelled = i .spelled;
   inside = h;
   count = i .count;
-  long = i .long;
-  held = line-held i h;
-  answer = i .answer ∙ rw (lines-at-end text at h e, o) (finish-line _ _ _ _ _ (omega arith));
+  answer =
+      i .answer ∙ rw (lines-at-end text at h e, o) (finish-line _ _ _ _ _ (omega (arith, i .long)))
+      ∙ ap (λ (d : Decoded). readFrom (kept (i .frames)) line (d ∷ framesOf (drop (at + 1) text))) (sym (ap decoded (i .held) ∙ decoded-front (i .spelled)));
 }
 
-module _ {text : List ℕ} {case : Case} {line at : ℕ} {bytes : List ℕ} {n : ℕ} (i : WholeLine text case line at bytes n) where
-  -- a line whose bytes are no frame
-  no-frame : decoded (i .spelled) ≡ Decoded.Refused 3 → Outcome.Refused (record { number = 3; line = line }) ≡ workText text
-  unfolding readFrom refusalOfDecoded
-  no-frame d = sym (i .answer ∙ rw d refl)
+module _ {text : List ℕ} {case : Case} {line at : ℕ} {bytes : List ℕ} {n : ℕ} (i : WholeLine text case line at bytes n) (d : Decoded) (e : d ≡ decoded (take n bytes)) where
+  decoded-line : workText text ≡ readFrom (kept (i .frames)) line (d ∷ framesOf (drop (at + 1) text))
+  decoded-line = i .answer ∙ ap (λ (z : Decoded). readFrom (kept (i .frames)) line (z ∷ framesOf (drop (at + 1) text))) (sym e)
 
-  -- more bytes than the buffer keeps are no frame
-  pub long-line : 28 < n → Outcome.Refused (record { number = 3; line = line }) ≡ workText text
-  long-line f = no-frame (decoded-long (i .spelled) (omega arith))
+  -- the bytes are no frame: the decoder's refusal is passed up
+  pub no-frame : (number : ℕ) → d ≡ Decoded.Refused number → (refusal : ℕ) → refusal ≡ refusalIn d → Outcome.Refused (record { number = refusal; line = line }) ≡ workText text
+  unfolding readFrom refusalOfDecoded refusalIn
+  no-frame number r refusal q =
+      let s : refusal ≡ number = q ∙ ap refusalIn r in
+      let t : number ≡ 3 = decoded-three (take n bytes) number (sym e ∙ r) in
+      sym (decoded-line ∙ rw (r, s, t) refl)
 
-  -- the bytes that the buffer keeps are no frame
-  pub kept-no-frame : n ≤ 28 → (number : ℕ) → decoded (take n bytes) ≡ Decoded.Refused number → Outcome.Refused (record { number = 3; line = line }) ≡ workText text
-  kept-no-frame f number d = no-frame (ap decoded (sym (i .held f)) ∙ d ∙ ap Decoded.Refused (decoded-three (take n bytes) number d))
-
-  module _ (f : n ≤ 28) (frame : Frame) (d : Decoded.Frame frame ≡ decoded (take n bytes)) (t : Taken) (taken : TakenFrom case (Decoded.Frame frame) t) where
+  module _ (frame : Frame) (f : d ≡ Decoded.Frame frame) (t : Taken) (taken : TakenFrom case (Decoded.Frame frame) t) where
     at-frame : TakenAfter (i .frames) (Decoded.Frame frame) case t
     at-frame = taken .after (i .frames) (i .is)
 
     frame-line : workText text ≡ readFrom (kept (i .frames)) line (Decoded.Frame frame ∷ framesOf (drop (at + 1) text))
-    frame-line = i .answer ∙ ap (λ (e : Decoded). readFrom (kept (i .frames)) line (e ∷ framesOf (drop (at + 1) text))) (ap decoded (sym (i .held f)) ∙ sym d)
+    frame-line = rw f at decoded-line
 
     -- the case refuses the frame
     pub frame-refused : (t .refusal ≡ 0 → ⊥) → Outcome.Refused (record { number = t .refusal; line = line }) ≡ workText text

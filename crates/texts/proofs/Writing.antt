@@ -4,8 +4,8 @@ use mathlib.Core.Path.{_≡_, refl, sym, ap, _∙_}
 use mathlib.Core.List.{List, [], _∷_, _++_, append-assoc, append-nil}
 use native.Mathlib.Omega.{arith}
 use native.Mathlib.Numerals.{sub-one}
-use lib.ListN.{length, take, getD, set, length-set, length-append, length-take}
-use lib.Seq.{take-suc, set-at, take-set-lt, length-take-le}
+use lib.ListN.{length, take, drop, getD, set, length-set, length-append, length-take}
+use lib.Seq.{take-suc, set-at, take-set-lt, drop-set-lt, drop-drop, length-take-le}
 use Rattle.rules.specs.declared.Outcome.{Outcome}
 use Rattle.texts.specs.declared.PrintedLine.{PrintedLine}
 use Rattle.texts.specs.Printed.{characterOf, digitsOf, Printed}
@@ -30,6 +30,7 @@ pub record Behind (start : List ℕ) (at many number : ℕ) (bytes : List ℕ) (
   pub size : length bytes ≡ length start
   pub digits : digitsOf many number ≡ digitsOf left rest ++ done
   pub written : take (at + many) bytes ≡ take (at + left) start ++ done
+  pub past : drop (at + many) bytes ≡ drop (at + many) start
 
 -- before the first turn
 pub behind-none : (start : List ℕ) (at many number : ℕ) → Behind start at many number start many number
@@ -39,6 +40,7 @@ behind-none start at many number = record {
   size = refl;
   digits = sym (append-nil (digitsOf many number));
   written = sym (append-nil (take (at + many) start));
+  past = refl;
 }
 
 -- a turn
@@ -59,6 +61,7 @@ behind-digit {start} {at} {many} {number} {bytes} {left} {rest} b room some =
       written =
           take-set-lt (at + many) bytes j x (omega arith)
           ∙ rw old (set-at (take j start) (getD start j 0) (b .done) x j (length-take-le j start (omega arith)));
+      past = drop-set-lt (at + many) bytes j x (omega arith) ∙ b .past;
     }
 
 -- after the last turn
@@ -73,7 +76,16 @@ behind-all {start} {at} {many} {number} {bytes} {left} {rest} b none =
 -- bytes behind bytes
 pub joined : {first second third : PrintedLine} {m n : ℕ} {xs ys : List ℕ} → Extended first m xs second → Extended second n ys third
     → Extended first (m + n) (xs ++ ys) third
-joined {first} d e = record { size = e .size; count = omega arith; bytes = e .bytes ∙ rw (d .bytes, append-assoc) refl }
+joined {first} {second} {third} {m} {n} d e = record {
+  size = e .size;
+  count = omega arith;
+  bytes = e .bytes ∙ rw (d .bytes, append-assoc) refl;
+  rest = e .rest ∙ past (second .bytes) ∙ ap (drop n) (d .rest) ∙ sym (past (first .bytes));
+}
+  where
+    -- the places past both are those past the first, less those of the second
+    past : (l : List ℕ) → drop (third .count) l ≡ drop n (drop (second .count) l)
+    past l = ap (λ (k : ℕ). drop k l) (e .count) ∙ sym (drop-drop n (second .count) l)
 
 -- the bytes that are printed are bytes of the line
 pub printed-within : {o : Outcome} {line : PrintedLine} → Printed o line → line .count ≤ length (line .bytes)

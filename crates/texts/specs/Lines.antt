@@ -2,7 +2,7 @@
 use Prim.Native.Nat.{ℕ, _+_, _≤_}
 use mathlib.Core.Path.{_≡_}
 use mathlib.Core.List.{List, _++_}
-use lib.ListN.{length, take}
+use lib.ListN.{length, take, drop}
 use Rattle.texts.specs.declared.PrintedLine.{PrintedLine}
 
 -- a line of 67 places with room for so many more bytes
@@ -10,8 +10,9 @@ pub record Room (line : PrintedLine) (many : ℕ) : Type 0 where
   pub size : length (line .bytes) ≡ 67
   pub fits : line .count + many ≤ 67
 
--- a line and behind it so many more bytes
+-- a line and behind it so many more bytes; the places past them as they were
 pub record Extended (before : PrintedLine) (many : ℕ) (more : List ℕ) (after : PrintedLine) : Type 0 where
   pub size : length (after .bytes) ≡ 67
   pub count : after .count ≡ before .count + many
   pub bytes : take (after .count) (after .bytes) ≡ take (before .count) (before .bytes) ++ more
+  pub rest : drop (after .count) (after .bytes) ≡ drop (after .count) (before .bytes)

@@ -4,7 +4,7 @@ use mathlib.Core.Path.{_≡_}
 use mathlib.Core.Bool.{cond}
 use mathlib.Core.List.{List, [], _∷_, _++_}
 use lib.Dec.{ltb}
-use lib.ListN.{length, take}
+use lib.ListN.{length, take, drop, replicate}
 use Rattle.rules.specs.declared.Outcome.{Outcome}
 use Rattle.texts.specs.declared.PrintedLine.{PrintedLine}
 
@@ -28,7 +28,8 @@ printedOf (Outcome.Worked a) =
     ++ bytesOfWidth 8 (a .«net_lump_sum» .0) ++ bytesOfWidth 8 (a .charge .0) ++ 0x0A ∷ []
 printedOf (Outcome.Refused r) = bytesOfWidth 1 0xEE ++ bytesOfWidth 1 (r .number) ++ bytesOfWidth 2 (r .line) ++ 0x0A ∷ []
 
--- the line that is printed: so many of the bytes, and each of them
+-- the line that is printed: so many of the bytes, each of them, and noughts in the places past them
 pub record Printed (o : Outcome) (p : PrintedLine) : Type 0 where
   pub count : p .count ≡ length (printedOf o)
   pub bytes : take (p .count) (p .bytes) ≡ printedOf o
+  pub rest : drop (p .count) (p .bytes) ≡ drop (p .count) (replicate 67 0)

@@ -3,10 +3,15 @@ use cases::Case;
 use fields::Digit;
 use fields::read_digit;
 use frames::Decoded;
+use frames::LONGEST_FRAME;
 use frames::decode;
+use frames::refusal_in;
 use rules::Outcome;
 use rules::Refusal;
 ghost use Rattle.texts.specs.Text.{TextWorked};
+
+// The bytes of a line that are kept: one more than the longest frame has, so that the decoder refuses a longer line by its length.
+const KEPT: usize = LONGEST_FRAME + 1;
 
 // What a text comes to: the amounts of its case, or the refusal of the first offending line.
 pub fn work_text(text: &[u8]) -> Outcome
@@ -24,8 +29,7 @@ pub fn work_text(text: &[u8]) -> Outcome
             return case.close();
         }
         line += 1;
-        // The bytes of the line, of which as many are kept as the longest frame has.
-        let mut bytes = [0u8; 28];
+        let mut bytes = [0u8; KEPT];
         let mut n: usize = 0;
         // The first digit of a byte, 16 where none waits.
         let mut high: u8 = 16;
@@ -46,10 +50,10 @@ pub fn work_text(text: &[u8]) -> Outcome
             if high == 16 {
                 high = v;
             } else {
-                if n < 28 {
+                if n < KEPT {
                     bytes[n] = high * 16 + v;
+                    n += 1;
                 }
-                n += 1;
                 high = 16;
             }
         }
@@ -61,12 +65,10 @@ pub fn work_text(text: &[u8]) -> Outcome
             number = 2;
             break 'lines;
         }
-        if 28 < n {
-            number = 3;
-            break 'lines;
-        }
-        let Decoded::Frame(frame) = decode(&bytes[..n]) else {
-            number = 3;
+        let read = decode(&bytes[..n]);
+        let Decoded::Frame(frame) = read else {
+            let refusal = refusal_in(read);
+            number = refusal;
             break 'lines;
         };
         let taken = case.take_frame(frame);

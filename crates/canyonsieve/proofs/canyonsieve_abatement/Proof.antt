@@ -1,6 +1,5 @@
 -- `canyonsieve::canyonsieve_abatement` meets its contract.
-use Rattle.benefits.specs.Steps.{abatementAnswer}
-use Rattle.canyonsieve.proofs.Given.{given-refusal, given-number}
+use mathlib.Core.Path.{_∙_}
 use borrow.Author.Needs.{needs}
 use Rattle.canyonsieve.proofs.canyonsieve_abatement.Statement.{statement}
 use Rattle.canyonsieve.proofs.canyonsieve_abatement.Tie as tie
@@ -12,10 +11,9 @@ figure-of-requires : tie.Need-figure-of-requires
 figure-of-requires c κs = search needs
 
 returns : tie.Need-returns
-unfolding abatementAnswer
 returns c =
     let e = c .before .abatement-call .ensures in
-    (given-refusal _ _ _ (c .figure-of .ensures) _ _ e, given-number _ _ _ (c .figure-of .ensures) _ _ e)
+    (c .figure-of .ensures .0 ∙ e .1 .0, c .figure-of .ensures .1 ∙ e .1 .1)
 
 pub canyonsieve-abatement-spec : {M : Type 1} → statement M
 canyonsieve-abatement-spec =

@@ -1,6 +1,5 @@
 -- `canyonsieve::canyonsieve_posts` meets its contract.
-use Rattle.posts.specs.Call.{callAnswer}
-use Rattle.canyonsieve.proofs.Given.{given-refusal, given-number}
+use mathlib.Core.Path.{_∙_}
 use borrow.Author.Needs.{needs}
 use Rattle.canyonsieve.proofs.canyonsieve_posts.Statement.{statement}
 use Rattle.canyonsieve.proofs.canyonsieve_posts.Tie as tie
@@ -15,10 +14,9 @@ same-length : tie.Need-same-length
 same-length c = search needs
 
 returns : tie.Need-returns
-unfolding callAnswer
 returns c =
     let e = c .before .before .before .posts-call .ensures in
-    (given-refusal _ _ _ (c .figure-of .ensures) _ _ (e .0), (given-number _ _ _ (c .figure-of .ensures) _ _ (e .0), e .1))
+    (c .figure-of .ensures .0 ∙ e .1 .0, (c .figure-of .ensures .1 ∙ e .1 .1 .0, e .1 .1 .1))
 
 pub canyonsieve-posts-spec : {M : Type 1} → statement M
 canyonsieve-posts-spec =

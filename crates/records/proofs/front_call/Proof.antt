@@ -53,7 +53,7 @@ use Rattle.measures.proofs.Answer.Laws as R′
 use Rattle.posts.specs.declared.Post.{Post}
 use Rattle.posts.proofs.Post as T
 use Rattle.posts.proofs.Post.Laws as T′
-use Rattle.records.specs.Records.{recordsAnswer, recordsPlaces}
+use Rattle.records.specs.Records.{RecordsGiven}
 use Rattle.records.proofs.records_call as call
 use Rattle.records.proofs.records_call.Symbol as call-def
 use Rattle.records.proofs.records_call.Symbol.{name as #records·records-call}
@@ -122,7 +122,7 @@ module _ {M : Type 1} (𝓤 : URA M) (H : Heap 𝓤) (A : Atoms 𝓤) (W : Given
   front-room : Room T.the-row (length (take n l))
   front-room = subst (Room T.the-row) (sym front-is) (omega arith, omega arith)
 
-  exits : (r : Answer) (v : Val) (zs : List ℕ) → (r ≡ recordsAnswer (take n l) (length (x .now))) × (zs ≡ recordsPlaces (take n l) (x .now)) → length zs ≡ length (x .now)
+  exits : (r : Answer) (v : Val) (zs : List ℕ) → RecordsGiven (take n l) (x .now) r zs → length zs ≡ length (x .now)
       → ent 𝓤 (⋆ 𝓤 H A ((‵ (flft κ q) ⊛ ‵ ftrue) ∷ ‵ (finally u64 (x .name) zs) ∷ ‵ (R.the-row .own r (v ∷ [])) ∷ [])) (Ends v)
   exits r v zs e k =
       qed W ((‵ (flft κ q) ⊛ ‵ ftrue) ∷ ‵ (finally u64 (x .name) zs) ∷ ‵ (R.the-row .own r (v ∷ [])) ∷ []) ∵
@@ -176,8 +176,8 @@ module _ {M : Type 1} (𝓤 : URA M) (H : Heap 𝓤) (A : Atoms 𝓤) (W : Given
         use2 W (raw (Records 𝓤 H A mem run .pre (to α l₄ δ))) (goes α l₄ δ) $
         calls-at ! fm (Records 𝓤 H A mem run) known (to α l₄ δ) (and-then ! (load ! (from ! (stop !)) (look ! 7 refl)) (and-then ! (load ! (from ! (stop !)) (look ! 3 refl)) (no-more !))) (λ w.
         use1 W (later (some (λ (r : Answer). ((‵ (flft (α ∷ []) fullShare) ⊛ ‵ (flft κ q) ⊛ ‵ ftrue) ⊛ ‵ (R.the-row .own r (w ∷ []))) ⊛ raw (ensured 𝓤 H A call.ended (call.clauses 𝓤 H A mem run) (α ∷ [], (κ, tt)) (slice α l₄ δ (take n l), (x, tt)) tt r)))) (id⊢ 𝓤 _) $ await ! tt $ pick ! (λ r.
-        split ! $ move ! (1 ∷ []) $ use1 W (some (λ (zs : Unit {0} × (List ℕ × Unit {0})). ‵ (lasts call.ended (α ∷ [], (κ, tt)) (slice α l₄ δ (take n l), (x, tt)) zs) ⊛ raw (fact 𝓤 ((r ≡ recordsAnswer (take n l) (length (x .now))) × (zs .1 .0 ≡ recordsPlaces (take n l) (x .now)))))) (id⊢ 𝓤 _) $ pick ! (λ zs.
-        split ! $ move ! (1 ∷ []) $ heard ! ((r ≡ recordsAnswer (take n l) (length (x .now))) × (zs .1 .0 ≡ recordsPlaces (take n l) (x .now))) (λ er.
+        split ! $ move ! (1 ∷ []) $ use1 W (some (λ (zs : Unit {0} × (List ℕ × Unit {0})). ‵ (lasts call.ended (α ∷ [], (κ, tt)) (slice α l₄ δ (take n l), (x, tt)) zs) ⊛ raw (fact 𝓤 (RecordsGiven (take n l) (x .now) r (zs .1 .0))))) (id⊢ 𝓤 _) $ pick ! (λ zs.
+        split ! $ move ! (1 ∷ []) $ heard ! (RecordsGiven (take n l) (x .now) r (zs .1 .0)) (λ er.
         fsplit ! $ drop ! $ fsplit ! $ fsplit ! $ move ! (1 ∷ []) $ feqL ! (λ k.
         -- [the last list; true; the tokens and the result; true; the lender's part; _8; …]: the lifetime is ended, and the array is whole again
         move ! (2 ∷ []) $ split ! $ split ! $ lft-end ! tt $ move ! (0 ∷ 6 ∷ []) $ lent-back ! tt $ use1 W (‵ (fat fullShare (tyArray T′.mir 17) l₄ 0 (val l))) (again 𝓤 H A W l is l₄) $

@@ -57,12 +57,12 @@ use Rattle.posts.specs.Year.{noPost, Held}
 use Rattle.posts.proofs.Post as T
 use Rattle.posts.proofs.Post.Laws as T′
 use Rattle.records.specs.declared.Reading.{Reading}
-use Rattle.records.specs.Records.{recordsAnswer, recordsPlaces}
+use Rattle.records.specs.Records.{RecordsGiven}
 use Rattle.records.specs.Reading.{begun, readOn, Finishing, Ended}
 use Rattle.records.proofs.Reading as S
 use Rattle.records.proofs.Reading.Laws as S′
 use Rattle.records.proofs.PlainCall.{loc, plain-call}
-use Rattle.records.proofs.Calling.{ReadTo, read-start, read-turn, read-finishing, read-end}
+use Rattle.records.proofs.Calling.{ReadTo, read-start, read-turn, read-finishing, read-given}
 use Rattle.records.proofs.begun as start
 use Rattle.records.proofs.begun.Symbol as start-def
 use Rattle.records.proofs.begun.Symbol.{name as #records·begun}
@@ -159,7 +159,7 @@ module _ {M : Type 1} (𝓤 : URA M) (H : Heap 𝓤) (A : Atoms 𝓤) (W : Given
   abbrev Lent : Fml
   Lent = MutSlice (named 1) κ′ u64 .own x (vx ∷ [])
 
-  exits : (r : Answer) (v : Val) (zs : List ℕ) → (r ≡ recordsAnswer ys m) × (zs ≡ recordsPlaces ys (x .now)) → length zs ≡ m
+  exits : (r : Answer) (v : Val) (zs : List ℕ) → RecordsGiven ys (x .now) r zs → length zs ≡ m
       → ent 𝓤 (⋆ 𝓤 H A (‵ (flft κ q) ∷ (‵ (flft κ′ q′) ⊛ ‵ ftrue) ∷ ‵ (finally u64 (x .name) zs) ∷ ‵ (R.the-row .own r (v ∷ [])) ∷ [])) (Ends v)
   exits r v zs e l =
       qed W (‵ (flft κ q) ∷ (‵ (flft κ′ q′) ⊛ ‵ ftrue) ∷ ‵ (finally u64 (x .name) zs) ∷ ‵ (R.the-row .own r (v ∷ [])) ∷ []) ∵
@@ -293,7 +293,7 @@ module _ {M : Type 1} (𝓤 : URA M) (H : Heap 𝓤) (A : Atoms 𝓤) (W : Given
             returns ! (look ! 30 refl) $ forget ! 6 refl $ forget ! 8 refl $ forget ! 16 refl $ forget ! 20 refl $ forget ! 22 refl $ forget ! 24 refl $ forget ! 26 refl $ forget ! 28 refl $ forget ! 30 refl $
             move ! (30 ∷ 31 ∷ []) $ free1 ! $ move ! (28 ∷ 29 ∷ []) $ free1 ! $ move ! (26 ∷ 27 ∷ []) $ free1 ! $ move ! (24 ∷ 25 ∷ []) $ free1 ! $ move ! (22 ∷ 23 ∷ []) $ free1 ! $ move ! (20 ∷ 21 ∷ []) $ free1 ! $ move ! (18 ∷ 19 ∷ []) $ free1 ! $
             move ! (16 ∷ 17 ∷ []) $ free1 ! $ move ! (14 ∷ 15 ∷ []) $ free1 ! $ move ! (12 ∷ 13 ∷ []) $ free1 ! $ move ! (10 ∷ 11 ∷ []) $ free1 ! $ move ! (8 ∷ 9 ∷ []) $ free1 ! $ move ! (6 ∷ 7 ∷ []) $ free1 ! $ free0 ! $
-            keep ! (4 ∷ 1 ∷ 2 ∷ 0 ∷ []) $ by ! (exits r w (zs .1 .0) (er .0 ∙ sym (read-end ys (x .now) (t .read) so .0), er .1 ∙ sym (read-end ys (x .now) (t .read) so .1)) l)))))))
+            keep ! (4 ∷ 1 ∷ 2 ∷ 0 ∷ []) $ by ! (exits r w (zs .1 .0) (read-given ys (x .now) (t .read) so r (zs .1 .0) er) l)))))))
 
         turns : Sq W (At t) (runs C Λ En body.turn-1 (anyQ (Turned t)))
         turns = either (ltb (t .i) n) more leaves

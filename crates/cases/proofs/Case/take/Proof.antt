@@ -1,6 +1,6 @@
 -- `cases::Case::take` meets its contract.
 use mathlib.Core.Path.{sym, _∙_, ap}
-use Rattle.frames.proofs.Bytes.{decoded-three}
+use Rattle.frames.specs.Frames.{refusalIn}
 use Rattle.cases.specs.State.{takenDecoded}
 use Rattle.cases.proofs.Contracts.{case-bounds, frame-taken, no-frame-taken, taken-from}
 use borrow.Author.Needs.{needs}
@@ -10,17 +10,22 @@ use Rattle.cases.proofs.Case.take.Tie as tie
 decode-requires : tie.Need-decode-requires
 decode-requires c κs = search needs
 
-enum-known-frame : tie.Need-enum-known-frame
-enum-known-frame c = search needs
+enum-known-read : tie.Need-enum-known-read
+enum-known-read c = search needs
 
 enum-told : tie.Need-enum-told
 enum-told c = search needs
 
+refusal-in-requires : tie.Need-refusal-in-requires
+refusal-in-requires c κs = search needs
+
 returns : tie.Need-returns
+unfolding refusalIn
 returns c =
-    let s = c .before .before .before .before in
-    let e = sym (c .enum-told .given .1) ∙ c .before .before .decode .ensures in
-    taken-from _ _ _ (s .pre) (no-frame-taken _ _ (decoded-three _ _ (sym e)) ∙ ap (takenDecoded (s .args .self)) e)
+    let s = c .before .before .before .before .before in
+    let told = c .before .enum-told .given .1 in
+    let e = sym told ∙ c .before .before .before .decode .ensures in
+    taken-from _ _ _ (s .pre) (no-frame-taken _ _ _ (c .refusal-in .ensures ∙ ap refusalIn told) ∙ ap (takenDecoded (s .args .self)) e)
 
 step-requires : tie.Need-step-requires
 step-requires c κs = case-bounds _ (c .before .before .before .before .before .pre)
@@ -28,8 +33,8 @@ step-requires c κs = case-bounds _ (c .before .before .before .before .before .
 returns-2 : tie.Need-returns-2
 returns-2 c =
     let s = c .before .before .before .before .before .before in
-    taken-from _ _ _ (s .pre) (c .step .ensures ∙ frame-taken _ _ ∙ ap (takenDecoded (s .args .self)) (sym (c .before .before .frame .given .1) ∙ c .before .before .before .before .decode .ensures))
+    taken-from _ _ _ (s .pre) (c .step .ensures ∙ frame-taken _ _ ∙ ap (takenDecoded (s .args .self)) (sym (c .before .before .read .given .1) ∙ c .before .before .before .before .decode .ensures))
 
 pub take-spec : {M : Type 1} → statement M
 take-spec =
-    tie.close (tie.spec decode-requires enum-known-frame enum-told returns step-requires returns-2)
+    tie.close (tie.spec decode-requires enum-known-read enum-told refusal-in-requires returns step-requires returns-2)

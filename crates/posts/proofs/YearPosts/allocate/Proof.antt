@@ -1,5 +1,4 @@
 -- `posts::YearPosts::allocate` meets its contract: the invariant is `Upto`, the parts and the pay of the posts passed.
-use mathlib.Core.Path.{refl}
 use native.Mathlib.Nat.{le-trans, le-of-eq}
 use Prim.Native.Nat.{_-_}
 use Rattle.posts.proofs.Standing.{place-stands, minutes-few, minutes-some}
@@ -10,13 +9,13 @@ use Rattle.posts.proofs.YearPosts.allocate.Statement.{statement}
 use Rattle.posts.proofs.YearPosts.allocate.Tie as tie
 
 abbrev Inv-loop : tie.InvT-loop
-Inv-loop self n total parts₀ pay₀ i₀ parts pay i = Upto self parts pay i
+Inv-loop self n total parts₀ aggregate₀ i₀ parts aggregate i = Upto self parts (aggregate .0) i
 
 abbrev μ-loop : tie.MeasureT-loop
-μ-loop self n total parts₀ pay₀ i₀ parts pay i = self .count - i
+μ-loop self n total parts₀ aggregate₀ i₀ parts aggregate i = self .count - i
 
 loop-holds : tie.Need-loop-holds Inv-loop μ-loop
-loop-holds c = upto-start (c .before .args .t1) (c .before .pre) _ refl
+loop-holds c = upto-start (c .before .args .t1) (c .before .pre)
 
 part-of-requires : tie.Need-part-of-requires Inv-loop μ-loop
 part-of-requires c κs = (c .before .before .before .pre, c .loop-test .taken)
@@ -44,23 +43,24 @@ mul-parts c = search needs
 array-write-parts : tie.Need-array-write-parts Inv-loop μ-loop
 array-write-parts c = omega (arith, c .before .before .before .before .before .before .pre .few)
 
-add-pay : tie.Need-add-pay Inv-loop μ-loop
-add-pay c =
-    let l = c .before .before .before .before .before in
-    omega (arith, l .before .before .pre .few, l .loop .inv .most, c .before .pay-for .ensures .1)
+add-aggregate : tie.Need-add-aggregate Inv-loop μ-loop
+add-aggregate c =
+    let l = c .before .before .before .before .before .before in
+    omega (arith, l .before .before .pre .few, l .loop .inv .most, c .before .before .pay-for .ensures .1)
 
 add-i : tie.Need-add-i Inv-loop μ-loop
-add-i c = omega (arith, c .before .before .before .before .before .before .before .pre .few)
+add-i c = omega (arith, c .before .before .before .before .before .before .before .before .pre .few)
 
 loop-less : tie.Need-loop-less Inv-loop μ-loop
 loop-less c = search needs
 
 loop-again : tie.Need-loop-again Inv-loop μ-loop
 loop-again c =
-    let l = c .before .before .before .before .before in
+    let k = c .before .before in
+    let l = k .before .before .before .before in
     let s = l .before .before in
-    upto-turn (s .args .t1) (s .pre) _ _ (l .loop .i) _ _ (l .loop .inv) (c .before .before .before .before .loop-test .taken)
-    (c .before .before .before .part-of .ensures) (c .before .pay-for .ensures .0) (c .before .pay-for .ensures .1)
+    upto-turn (s .args .t1) (s .pre) _ _ (l .loop .i) _ _ (l .loop .inv) (k .before .before .before .loop-test .taken)
+    (k .before .before .part-of .ensures) (k .pay-for .ensures .0) (k .pay-for .ensures .1)
 
 returns : tie.Need-returns Inv-loop μ-loop
 returns c =
@@ -81,7 +81,7 @@ allocate-spec =
     pay-for-requires
     mul-parts
     array-write-parts
-    add-pay
+    add-aggregate
     add-i
     loop-less
     loop-again

@@ -57,6 +57,7 @@ returns c =
     rw (kind .before .before .outcome .given .1) record {
       count = whole .count ∙ simp (length-append, length-digits);
       bytes = whole .bytes;
+      rest = whole .rest;
     }
 
 returns-2 : tie.Need-returns-2
@@ -71,6 +72,7 @@ returns-2 c =
     rw (kind .before .before .outcome2 .given .1) record {
       count = whole .count ∙ simp (length-append, length-digits);
       bytes = whole .bytes;
+      rest = whole .rest;
     }
 
 pub printed-spec : {M : Type 1} → statement M

@@ -3,7 +3,7 @@ use Prim.Native.Nat.{_<_}
 use mathlib.Core.Path.{refl}
 use native.Mathlib.Numerals.{add-one}
 use lib.ListN.{length, length-set}
-use lib.Seq.{take-suc-set}
+use lib.Seq.{take-suc-set, drop-set-lt}
 use borrow.Author.Needs.{needs}
 use native.Mathlib.Omega.{arith}
 use Rattle.texts.proofs.printing.with_end.Statement.{statement}
@@ -22,6 +22,7 @@ returns c =
       size = simp length-set (c .before .pre .size);
       count = search needs;
       bytes = rw (add-one, take-suc-set) refl;
+      rest = drop-set-lt _ _ _ _ (omega arith);
     }
 
 pub with-end-spec : {M : Type 1} → statement M

@@ -39,7 +39,7 @@ add-t16 : tie.Need-add-t16 Inv-loop μ-loop
 add-t16 c = search needs
 
 returns : tie.Need-returns Inv-loop μ-loop
-returns c = record { size = omega arith; count = search needs; bytes = behind-all (c .before .loop .inv) (omega arith) }
+returns c = record { size = omega arith; count = search needs; bytes = behind-all (c .before .loop .inv) (omega arith); rest = c .before .loop .inv .past }
 
 pub with-number-spec : {M : Type 1} → statement M
 with-number-spec =
