@@ -1,5 +1,5 @@
 -- `texts::printing::with_end` meets its contract.
-use Prim.Native.Nat.{_<_}
+use Prim.Native.Nat.{_+_, _<_}
 use mathlib.Core.Path.{refl}
 use native.Mathlib.Numerals.{add-one}
 use lib.ListN.{length, length-set}
@@ -22,7 +22,7 @@ returns c =
       size = simp length-set (c .before .pre .size);
       count = search needs;
       bytes = rw (add-one, take-suc-set) refl;
-      rest = drop-set-lt _ _ _ _ (omega arith);
+      rest = drop-set-lt (c .before .args .line .count + 1) (c .before .args .line .bytes) (c .before .args .line .count) 10 (omega arith);
     }
 
 pub with-end-spec : {M : Type 1} → statement M

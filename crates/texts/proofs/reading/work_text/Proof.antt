@@ -1,7 +1,6 @@
 -- `texts::reading::work_text` meets its contract: the invariants say that what is left of the text, from the frames kept so far, gives the answer of the whole.
 use Prim.Native.Nat.{_+_, _-_, _≤_}
 use mathlib.Core.Path.{refl, sym, _∙_}
-use mathlib.Core.Logic.{⊎-elim}
 use lib.ListN.{length}
 use Rattle.texts.proofs.Worked.{text-worked}
 use lib.Seq.{length-take-le}
@@ -84,38 +83,57 @@ loop-less-2 c = search needs
 
 loop-again-2 : tie.Need-loop-again-2 Inv-loop μ-loop Inv-lines μ-lines
 loop-again-2 c =
-    ⊎-elim
-    (λ w. (rw (w .1) (lines.byte-kept (c .before .before .before .before .before .before .before .before .before .loop .inv .0) (c .before .before .before .before .before .before .before .before .if3 .left) (c .before .before .before .before .before .before .if4 .left) _ (sym (c .before .before .before .v .given .1) ∙ c .before .before .before .before .before .read-digit .ensures) (c .before .if5 .left) (w .0 .taken)), omega arith))
-    (λ w. (rw (w .1) (lines.byte-counted (c .before .before .before .before .before .before .before .before .before .loop .inv .0) (c .before .before .before .before .before .before .before .before .if3 .left) (c .before .before .before .before .before .before .if4 .left) _ (sym (c .before .before .before .v .given .1) ∙ c .before .before .before .before .before .read-digit .ensures) (c .before .if5 .left) (w .0 .left)), omega arith))
-    (c .if6 .came)
+    let digit = c .before .before .before in
+    let read = digit .before .before in
+    let l = read .before .before .before .before in
+    (lines.byte-kept (l .loop .inv .0) (read .before .before .before .if3 .left) (read .before .if4 .left) _ (sym (digit .v .given .1) ∙ read .read-digit .ensures) (c .before .if5 .left) (c .if6 .taken), omega arith)
+
+loop-less-3 : tie.Need-loop-less-3 Inv-loop μ-loop Inv-lines μ-lines
+loop-less-3 c = search needs
+
+loop-again-3 : tie.Need-loop-again-3 Inv-loop μ-loop Inv-lines μ-lines
+loop-again-3 c =
+    let digit = c .before .before .before in
+    let read = digit .before .before in
+    let l = read .before .before .before .before in
+    (lines.byte-passed (l .loop .inv .0) (read .before .before .before .if3 .left) (read .before .if4 .left) _ (sym (digit .v .given .1) ∙ read .read-digit .ensures) (c .before .if5 .left) (c .if6 .left), omega arith)
 
 array-share-prefix-bytes : tie.Need-array-share-prefix-bytes Inv-loop μ-loop Inv-lines μ-lines
-array-share-prefix-bytes c = search needs
+array-share-prefix-bytes c = omega (arith, c .before .before .before .before .before .loop .inv .0 .long)
 
 slice-aggregate-decode : tie.Need-slice-aggregate-decode Inv-loop μ-loop Inv-lines μ-lines
-slice-aggregate-decode c = sym (length-take-le _ _ (omega arith))
+slice-aggregate-decode c = let l = c .before .before .before .before .before .before in sym (length-take-le _ _ (omega (arith, l .loop .inv .0 .long, l .loop .inv .0 .room)))
 
 decode-requires : tie.Need-decode-requires Inv-loop μ-loop Inv-lines μ-lines
 decode-requires c κs = search needs
 
-enum-known-frame : tie.Need-enum-known-frame Inv-loop μ-loop Inv-lines μ-lines
-enum-known-frame c = search needs
+enum-known-read : tie.Need-enum-known-read Inv-loop μ-loop Inv-lines μ-lines
+enum-known-read c = search needs
 
 enum-told-2 : tie.Need-enum-told-2 Inv-loop μ-loop Inv-lines μ-lines
 enum-told-2 c = search needs
 
+refusal-in-requires : tie.Need-refusal-in-requires Inv-loop μ-loop Inv-lines μ-lines
+refusal-in-requires c κs = search needs
+
 take-frame-requires : tie.Need-take-frame-requires Inv-loop μ-loop Inv-lines μ-lines
-take-frame-requires c κs = lines.in-line-case (c .before .before .before .before .before .before .before .before .before .before .before .loop .inv .0)
+take-frame-requires c κs = lines.in-line-case (c .before .before .before .before .before .before .before .before .before .before .loop .inv .0)
 
 lines-less : tie.Need-lines-less Inv-loop μ-loop Inv-lines μ-lines
-lines-less c = omega (arith, c .before .before .before .before .before .before .before .before .before .before .before .before .before .before .before .loop .inv .1, c .before .before .before .before .before .before .before .before .before .before .before .before .before .before .if3 .left)
+lines-less c =
+    let l = c .before .before .before .before .before .before .before .before .before .before .before .before .before in
+    omega (arith, l .before .loop .inv .1, l .if3 .left)
 
 -- at the 0A of a line of whole bytes
 whole : (c : tie.Else8 Inv-loop μ-loop Inv-lines μ-lines) → WholeLine (c .before .before .before .before .before .before .before .before .before .before .before .args .text .now) (c .before .before .before .before .before .before .before .lines .case) (c .before .before .before .before .before .before .before .lines .line + 1) (c .before .before .before .before .before .loop .at) (c .before .before .before .before .before .loop .bytes) (c .before .before .before .before .before .loop .n)
 whole c = lines.whole-line (c .before .before .before .before .before .loop .inv .0) (c .before .before .before .before .if3 .left) (c .before .before .if4 .taken) (c .before .if7 .left) (c .if8 .left)
 
 lines-again : tie.Need-lines-again Inv-loop μ-loop Inv-lines μ-lines
-lines-again c = lines.frame-taken (whole (c .before .before .before .before .before .before .before .before .before .before)) (c .before .before .before .before .before .before .before .before .before .if9 .left) _ (sym (c .before .before .before .before .before .frame .given .1) ∙ c .before .before .before .before .before .before .before .decode .ensures) _ (c .before .before .before .take-frame .ensures) (c .before .before .before .before .before .before .before .before .before .before .before .before .before .before .before .before .before .lines .inv .small) (c .before .if10 .left)
+lines-again c =
+    let taken = c .before .before .before in
+    let read = taken .before .before in
+    let line = read .before .before .before .before in
+    lines.frame-taken (whole line) _ (read .before .before .decode .ensures) _ (read .read .given .1) _ (taken .take-frame .ensures) (line .before .before .before .before .before .before .before .lines .inv .small) (c .before .if9 .left)
 
 returns-3 : tie.Need-returns-3 Inv-loop μ-loop Inv-lines μ-lines
 returns-3 c = text-worked _ _ (lines.text-ends (c .before .loop .inv .0) (c .if3 .taken))
@@ -130,13 +148,15 @@ returns-6 : tie.Need-returns-6 Inv-loop μ-loop Inv-lines μ-lines
 returns-6 c = text-worked _ _ (lines.empty-line (c .before .before .before .before .before .loop .inv .0) (c .before .before .before .before .if3 .left) (c .before .before .if4 .taken) (c .before .if7 .left) (c .if8 .taken))
 
 returns-7 : tie.Need-returns-7 Inv-loop μ-loop Inv-lines μ-lines
-returns-7 c = text-worked _ _ (lines.long-line (whole (c .before)) (c .if9 .taken))
+returns-7 c =
+    let d = c .before .before .before in
+    text-worked _ _ (lines.no-frame (whole (d .before .before)) _ (d .decode .ensures) _ (c .before .enum-told2 .given .1) _ (c .refusal-in .ensures))
 
 returns-8 : tie.Need-returns-8 Inv-loop μ-loop Inv-lines μ-lines
-returns-8 c = text-worked _ _ (lines.kept-no-frame (whole (c .before .before .before .before .before)) (c .before .before .before .before .if9 .left) _ (sym (sym (c .enum-told2 .given .1) ∙ c .before .before .decode .ensures)))
-
-returns-9 : tie.Need-returns-9 Inv-loop μ-loop Inv-lines μ-lines
-returns-9 c = text-worked _ _ (lines.frame-refused (whole (c .before .before .before .before .before .before .before .before .before)) (c .before .before .before .before .before .before .before .before .if9 .left) _ (sym (c .before .before .before .before .frame .given .1) ∙ c .before .before .before .before .before .before .decode .ensures) _ (c .before .before .take-frame .ensures) (c .if10 .taken))
+returns-8 c =
+    let taken = c .before .before in
+    let read = taken .before .before in
+    text-worked _ _ (lines.frame-refused (whole (read .before .before .before .before)) _ (read .before .before .decode .ensures) _ (read .read .given .1) _ (taken .take-frame .ensures) (c .if9 .taken))
 
 pub work-text-spec : {M : Type 1} → statement M
 work-text-spec =
@@ -166,11 +186,14 @@ work-text-spec =
     add-n
     loop-less-2
     loop-again-2
+    loop-less-3
+    loop-again-3
     array-share-prefix-bytes
     slice-aggregate-decode
     decode-requires
-    enum-known-frame
+    enum-known-read
     enum-told-2
+    refusal-in-requires
     take-frame-requires
     lines-less
     lines-again
@@ -179,5 +202,4 @@ work-text-spec =
     returns-5
     returns-6
     returns-7
-    returns-8
-    returns-9)
+    returns-8)
