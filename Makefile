@@ -9,8 +9,9 @@ PROGRAM = target/bin/case_program
 STAGE = target/stage
 CARGO = CARGO_TARGET_DIR=$(CURDIR)/target/second CANYONSIEVE_LIB_DIR=$(CURDIR)/target/staticlib cargo
 SECOND = --release --offline --locked --manifest-path tests/second/Cargo.toml
+BENCH = --release --offline --locked --manifest-path bench/Cargo.toml
 
-.PHONY: all library header program install test c-test memcheck examples payroll second oracle fuzz bench clean
+.PHONY: all library header program install test c-test memcheck examples payroll second twin oracle fuzz bench clean
 
 all: library header program
 
@@ -66,6 +67,11 @@ second: library
 	$(CARGO) run $(SECOND) --features case --bin compare
 	$(CARGO) run $(SECOND) --features case --bin rivals
 
+# The twin of the benchmark: its own figures, then held against the library.
+twin: library
+	$(CARGO) test $(BENCH)
+	$(CARGO) run $(BENCH) -- --compare
+
 # A fuzzer over the calls, started from the examples. Not part of the gate.
 FUZZ_SECONDS ?= 60
 fuzz: library
@@ -74,12 +80,9 @@ fuzz: library
 	clang -g -O1 -fsanitize=fuzzer,address -Wall -Wextra -Werror -Iinclude tests/fuzz/calls.c $(LIBRARY) -o target/fuzz/calls
 	target/fuzz/calls -max_total_time=$(FUZZ_SECONDS) -max_len=34000 -timeout=10 target/fuzz/corpus
 
-# The time of a case beside the second program's and a plain decoder's. Not part of the gate.
+# The time of a case over different texts, beside the twin's. Not part of the gate.
 bench: library
-	mkdir -p target/bench
-	$(CC) -std=c99 -O3 -Wall -Wextra -Werror -c bench/decoder.c -o target/bench/decoder.o
-	$(AR) rcs target/bench/libdecoder.a target/bench/decoder.o
-	CANYONSIEVE_DECODER_DIR=$(CURDIR)/target/bench $(CARGO) run --release --offline --locked --manifest-path bench/Cargo.toml
+	$(CARGO) run $(BENCH)
 
 # What crates/running/stdout must hold, worked from document 01 in exact fractions, and the script for it.
 oracle:

@@ -1,0 +1,168 @@
+//! Texts and lists of posts drawn from a fixed seed, every one different and none refused.
+
+use second::benefits::FinalPay;
+use second::calendar::Date;
+use second::cases::{Case, Year};
+use second::frames::{Debit, Factor, Member};
+use second::posts::Post;
+use second::random::Random;
+use second::samples::writing::{case_text, post_records};
+use std::collections::HashSet;
+
+/// The least number of inputs of one size. Small inputs are more, so that all together have at
+/// least so many bytes: a processor learns the branches of what it meets again and again.
+const LEAST_COUNT: usize = 256;
+const LEAST_BYTES: usize = 600_000;
+
+/// What the cases of one size have.
+#[derive(Clone, Copy)]
+pub struct Size {
+    pub years: u64,
+    pub posts: u64,
+    /// Whether there are a section, an 04, factors and debits besides.
+    pub whole: bool,
+}
+
+/// The sizes that are compared and timed.
+pub const SIZES: [Size; 10] = [
+    plain(1, 1),
+    plain(1, 4),
+    plain(1, 16),
+    plain(10, 1),
+    plain(10, 4),
+    plain(10, 16),
+    plain(50, 1),
+    plain(50, 4),
+    plain(50, 16),
+    Size {
+        years: 10,
+        posts: 4,
+        whole: true,
+    },
+];
+
+/// The place of the year of 16 posts among the sizes.
+pub const ONE_YEAR: usize = 2;
+
+const fn plain(years: u64, posts: u64) -> Size {
+    Size {
+        years,
+        posts,
+        whole: false,
+    }
+}
+
+/// Draws inputs until they are enough, each different from those before.
+fn enough(mut draw: impl FnMut() -> Vec<u8>) -> Vec<Vec<u8>> {
+    let mut inputs = Vec::new();
+    let mut drawn = HashSet::new();
+    let mut bytes = 0;
+    while inputs.len() < LEAST_COUNT || bytes < LEAST_BYTES {
+        let input = draw();
+        if drawn.insert(input.clone()) {
+            bytes += input.len();
+            inputs.push(input);
+        }
+    }
+    inputs
+}
+
+/// The texts of a size.
+pub fn texts(random: &mut Random, size: Size) -> Vec<Vec<u8>> {
+    enough(|| case_text(&case(random, size)))
+}
+
+/// Lists of 16 posts as the posts call takes them.
+pub fn lists(random: &mut Random) -> Vec<Vec<u8>> {
+    enough(|| post_records(&posts(random, 16)))
+}
+
+/// Posts of varied weeks and rates, none of them whole-time.
+fn posts(random: &mut Random, count: u64) -> Vec<Post> {
+    let mut post = || {
+        let any = random.between(1_800, 2_700);
+        let whole_time = random.pick(&[2_250, 2_250, 2_400, any]);
+        Post {
+            contracted: random.between(60, whole_time - 1),
+            whole_time,
+            pay: random.between(100_000, 9_000_000),
+        }
+    };
+    (0..count).map(|_| post()).collect()
+}
+
+/// A case of the size.
+fn case(random: &mut Random, size: Size) -> Case {
+    let first = random.between(2015, 2045);
+    let years = (first..first + size.years).map(|april| Year {
+        april,
+        revaluation: random.between(0, 900),
+        posts: posts(random, size.posts),
+    });
+    let mut case = Case {
+        years: years.collect(),
+        ..Case::default()
+    };
+    if size.whole {
+        add_section(random, &mut case);
+    } else {
+        let late = random.between(0, 36);
+        case.member = Some(member(random, 0, 67, 12 * 67 + late));
+    }
+    case
+}
+
+/// A member who retires so many months after birth, on the day of birth.
+fn member(random: &mut Random, section: u64, pension_age: u64, months: u64) -> Member {
+    let birth = Date {
+        year: random.between(1950, 1990),
+        month: random.between(1, 12),
+        day: random.between(1, 28),
+    };
+    let reached = 12 * birth.year + birth.month - 1 + months;
+    let retirement = Date {
+        year: reached / 12,
+        month: reached % 12 + 1,
+        day: birth.day,
+    };
+    Member {
+        birth,
+        retirement,
+        section,
+        pension_age,
+    }
+}
+
+/// Adds a member of the 1995 Section who retires early by both schemes, final pay, factors and
+/// debits.
+fn add_section(random: &mut Random, case: &mut Case) {
+    let early = random.between(1, 60);
+    case.member = Some(member(random, 1, 67, 720 - early));
+    case.final_pay = Some(FinalPay {
+        pays: [0; 4].map(|_| random.between(2_000_000, 6_000_000)),
+        allowances: [0; 3].map(|_| random.between(0, 100)),
+        controls: random.below(8),
+        days: random.between(3_000, 14_600),
+        factor: random.between(1_500, 2_500),
+    });
+    for (scheme, early) in [(0, early + 84), (1, early)] {
+        case.factors.extend(factors(random, scheme, early));
+        case.debits.push(Debit {
+            scheme,
+            pot: random.between(10_000, 500_000),
+            factor: random.between(1_500, 2_500),
+        });
+    }
+}
+
+/// A dozen factors of a scheme that follow one another, the wanted one among them.
+fn factors(random: &mut Random, scheme: u64, wanted: u64) -> Vec<Factor> {
+    let first = wanted.saturating_sub(random.below(12)).max(1);
+    let factor = |months| Factor {
+        scheme,
+        months,
+        pension: random.between(600, 999),
+        lump_sum: scheme * random.between(600, 999),
+    };
+    (first..first + 12).map(factor).collect()
+}
