@@ -43,7 +43,7 @@ minutes-most [] a = omega arith
 minutes-most (x ∷ xs) a = let s = standing x (a .0) in omega (arith, minutes-most xs (a .1))
 
 -- what a post adds to K
-pub week-most : (x : Post) → postStands x ≡ true → w x * h x ≤ 101606400
+week-most : (x : Post) → postStands x ≡ true → w x * h x ≤ 101606400
 week-most x e = let s = standing x e in let m : h x ≤ 10080 = omega arith in mul-le-mul (s .week) m
 
 pub weighted-most : (xs : List Post) → AllStand xs → weightedParts xs ≤ 101606400 * length xs

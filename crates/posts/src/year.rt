@@ -51,7 +51,7 @@ fn either(a: bool, b: bool) -> bool
 // The whole-time minutes times the contracted ones: what a post adds to K.
 fn weighted_week(contracted: Minutes, whole: Minutes) -> u64
     requires { ⌜ (contracted .0 ≤ 10080) × (whole .0 ≤ 10080) ⌝ }
-    ensures { λ r. ⌜ r ≡ whole .0 * contracted .0 ⌝ }
+    ensures { λ r. ⌜ (r ≡ whole .0 * contracted .0) × (r ≤ 10080 * 10080) ⌝ }
 {
     whole.0 * contracted.0
 }
