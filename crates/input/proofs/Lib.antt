@@ -1,2 +1,6 @@
 pub mod Numbers
-pub mod Spelling
+pub mod Pairs
+pub mod Posts
+pub mod Putting
+pub mod Rest
+pub mod Words

@@ -2,14 +2,13 @@
 use Prim.Native.Nat.{ℕ, _+_, _≤_, _<_}
 use mathlib.Core.List.{List}
 use mathlib.Core.Path.{_≡_}
-use native.Mathlib.Numerals.{add-one}
 use lib.ListN.{length, getD, drop, drop-of-length-le}
-use lib.Seq.{drop-cons}
 use Rattle.input.specs.Script.{withDigit, withDigits}
+use Rattle.input.proofs.Rest.{rest-at}
 
 pub one-digit : (text : List ℕ) (n i : ℕ) → i < length text → withDigits (withDigit n (getD text i 0)) (drop (i + 1) text) ≡ withDigits n (drop i text)
 unfolding withDigits
-one-digit text n i l = rw (add-one, drop-cons text i 0 l)
+one-digit text n i l = rw (rest-at text i 0 l)
 
 pub no-digits : (text : List ℕ) (n i : ℕ) → length text ≤ i → withDigits n (drop i text) ≡ n
 unfolding withDigits

@@ -1,10 +1,10 @@
 -- The parts of a script.
-use Prim.Native.Nat.{ℕ, _+_, _*_, _≤_, _<_}
+use Prim.Native.Nat.{ℕ, _+_, _*_, _≤_, _<_, min}
 use mathlib.Core.Bool.{Bool, true, false, cond}
-use mathlib.Core.List.{List, [], _∷_}
+use mathlib.Core.List.{List, [], _∷_, _++_, map}
 use mathlib.Core.Path.{_≡_}
-use lib.Dec.{ltb}
-use lib.ListN.{length, getD}
+use lib.Dec.{ltb, eqb}
+use lib.ListN.{length, getD, take, drop}
 use Rattle.io.specs.Counts.{Counts}
 use Rattle.fields.specs.declared.Digit.{Digit}
 use Rattle.fields.specs.Digits.{digitOf}
@@ -33,22 +33,11 @@ areDigits x y = cond (ltb (digitValue x) 16) (ltb (digitValue y) 16) false
 unfoldable pub byteOf : ℕ → ℕ → ℕ
 byteOf x y = 16 * digitValue x + digitValue y
 
--- the k-th pair of a text is two digits
-pub record Pair (text : List ℕ) (k : ℕ) : Type 0 where
-  pub there : 2 * k + 1 < length text
-  pub digits : areDigits (getD text (2 * k) 0) (getD text (2 * k + 1) 0) ≡ true
-
--- the k-th pair of a text spells a byte
-pub record Spells (text : List ℕ) (k byte : ℕ) : Type 0 where
-  pub pair : Pair text k
-  pub value : byte ≡ byteOf (getD text (2 * k) 0) (getD text (2 * k + 1) 0)
-
--- the first r bytes of `after` are those that a text spells, and no more are spelled or fit
-pub record BytesIn (text before after : List ℕ) (r : ℕ) : Type 0 where
-  pub same-length : length after ≡ length before
-  pub within : Counts r after
-  pub spelled : (k : ℕ) → k < r → Spells text k (getD after k 0)
-  pub ended : r < length after → Pair text r → ⊥
+-- the bytes that pairs of digits spell, up to the first pair that has another byte in it or the last whole pair
+unfoldable pub bytesSpelled : List ℕ → List ℕ
+bytesSpelled [] = []
+bytesSpelled (x ∷ []) = []
+bytesSpelled (x ∷ y ∷ more) = cond (areDigits x y) (byteOf x y ∷ bytesSpelled more) []
 
 -- a number with one decimal digit more; the number itself where the byte is no digit 0-9 or there is no room for it
 unfoldable pub withDigit : ℕ → ℕ → ℕ
@@ -63,3 +52,34 @@ withDigits n (x ∷ more) = withDigits (withDigit n x) more
 -- the number that decimal digits spell
 abbrev pub numberOf : List ℕ → ℕ
 numberOf text = withDigits 0 text
+
+-- one more byte in front of the words of what follows it, `true` where it is a blank
+unfoldable pub before : Bool → ℕ → List (List ℕ) → List (List ℕ)
+before true x words = [] ∷ words
+before false x [] = (x ∷ []) ∷ []
+before false x (word ∷ words) = (x ∷ word) ∷ words
+
+-- the words that blanks part, at least one
+unfoldable pub partedWords : List ℕ → List (List ℕ)
+partedWords [] = [] ∷ []
+partedWords (x ∷ more) = before (eqb x 32) x (partedWords more)
+
+-- the words of a text, each after one byte that parts it from what stands before
+unfoldable pub wordsOf : List ℕ → List (List ℕ)
+wordsOf [] = []
+wordsOf (x ∷ more) = partedWords more
+
+-- the numbers of the words of a text
+unfoldable pub numbersOf : List ℕ → List ℕ
+numbersOf text = map numberOf (wordsOf text)
+
+-- what stands in a text from the first `mark` on; nothing where there is none
+unfoldable pub fromMark : ℕ → List ℕ → List ℕ
+fromMark mark [] = []
+fromMark mark (x ∷ more) = cond (eqb x mark) (x ∷ more) (fromMark mark more)
+
+-- the start of a list in the first r places, as many of its numbers as there are places for, and the other places as they were
+pub record PutIn (list places after : List ℕ) (r : ℕ) : Type 0 where
+  pub count : r ≡ min (length places) (length list)
+  pub is : after ≡ take r list ++ drop r places
+  pub within : Counts r after

@@ -1,10 +1,12 @@
-// What the programs read from standard input.
+// What the programs read from standard input, and posts spelled in bytes.
 mod script;
+mod spelling;
 
 use libc::STDIN_FILENO;
 pub use script::bytes_in;
 pub use script::end_at;
 pub use script::numbers_in;
+pub use spelling::spelled;
 ghost use Rattle.io.specs.Counts.{Counts};
 
 // Reads until the room is full, the input ends or a read fails, and gives the number of bytes to work. After a failed read one byte

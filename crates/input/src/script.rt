@@ -5,7 +5,7 @@ ghost use Prim.Native.Nat.{_≤_};
 ghost use mathlib.Core.Bool.{true};
 ghost use mathlib.Core.Path.{_≡_};
 ghost use lib.ListN.{length};
-ghost use Rattle.input.specs.Script.{EndAt, digitValue, areDigits, byteOf, BytesIn, withDigit, numberOf};
+ghost use Rattle.input.specs.Script.{EndAt, digitValue, areDigits, byteOf, bytesSpelled, withDigit, numberOf, numbersOf, PutIn};
 
 // The place of the next byte `mark` at or after a place, or the length.
 pub fn end_at(text: &[u8], from: usize, mark: u8) -> usize
@@ -48,9 +48,9 @@ fn byte_of(x: u8, y: u8) -> u8
 }
 
 // Puts the bytes that pairs of digits spell at the start of `bytes`, as many as fit, and gives their number. The first pair that has
-// another byte in it ends them.
+// another byte in it ends them, and the places behind them stay.
 pub fn bytes_in(text: &[u8], bytes: &mut [u8]) -> usize
-    ensures { λ r. ⌜ BytesIn (now (text .entry)) (now (bytes .entry)) (now (bytes .exit)) r ⌝ }
+    ensures { λ r. ⌜ PutIn (bytesSpelled (now (text .entry))) (now (bytes .entry)) (now (bytes .exit)) r ⌝ }
 {
     let mut n: usize = 0;
     while n < bytes.len() && n < text.len() / 2 {
@@ -94,9 +94,9 @@ fn number_in(text: &[u8]) -> u64
 }
 
 // Puts the numbers of the words of a text, each after one byte that parts it from what stands before, at the start of `numbers`, as
-// many as fit, and gives how many.
+// many as fit, and gives how many. The places behind them stay.
 pub fn numbers_in(text: &[u8], numbers: &mut [u64]) -> usize
-    ensures { λ r. ⌜ r ≤ length (now (numbers .exit)) ⌝ }
+    ensures { λ r. ⌜ PutIn (numbersOf (now (text .entry))) (now (numbers .entry)) (now (numbers .exit)) r ⌝ }
 {
     let mut n: usize = 0;
     let mut at: usize = 0;

@@ -2,7 +2,7 @@
 use native.Mathlib.Omega.{arith}
 use borrow.Author.Needs.{needs}
 use Rattle.input.specs.Script.{byteOf}
-use Rattle.input.proofs.Spelling.{high-digit, low-digit}
+use Rattle.input.proofs.Pairs.{high-digit, low-digit}
 use Rattle.input.proofs.script.byte_of.Statement.{statement}
 use Rattle.input.proofs.script.byte_of.Tie as tie
 

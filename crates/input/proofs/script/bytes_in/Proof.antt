@@ -1,26 +1,24 @@
--- `input::script::bytes_in` meets its contract: what was put is spelled, and one place fewer is left at each turn.
-use Prim.Native.Nat.{ℕ, _-_, _≤_, _<_}
-use mathlib.Core.Bool.{true≢false}
-use mathlib.Core.Path.{_≡_, _∙_, sym}
-use lib.ListN.{length, length-set, getD}
+-- `input::script::bytes_in` meets its contract: what was put is the start of what is spelled, and one place fewer is left at each turn.
+use Prim.Native.Nat.{_*_, _-_}
+use mathlib.Core.Path.{_∙_, sym}
+use lib.ListN.{length, length-set, drop}
 use native.Mathlib.Omega.{arith}
 use borrow.Author.Needs.{needs}
 use borrow.Author.Tests.{ltb-true, ltb-false}
-use Rattle.io.proofs.Counting.{counts}
-use Rattle.input.specs.Script.{Spells}
-use Rattle.input.proofs.Spelling.{one-more}
+use Rattle.input.specs.Script.{bytesSpelled}
+use Rattle.input.proofs.Pairs.{pair-more, pair-other, pair-none}
+use Rattle.input.proofs.Putting.{Putting, put-none, put-more, put-all, put-full}
 use Rattle.input.proofs.script.bytes_in.Statement.{statement}
 use Rattle.input.proofs.script.bytes_in.Tie as tie
 
 abbrev Inv-loop : tie.InvT-loop
-Inv-loop text bytes₀ n₀ bytes n =
-    (length bytes ≡ length bytes₀) × (n ≤ length bytes) × ((k : ℕ) → k < n → Spells text k (getD bytes k 0))
+Inv-loop text bytes₀ n₀ bytes n = Putting (bytesSpelled text) bytes₀ (bytesSpelled (drop (2 * n) text)) bytes n
 
 abbrev μ-loop : tie.MeasureT-loop
 μ-loop text bytes₀ n₀ bytes n = length bytes - n
 
 loop-holds : tie.Need-loop-holds Inv-loop μ-loop
-loop-holds c = (omega arith, omega arith, λ k l. absurd (omega arith))
+loop-holds c = put-none _ _
 
 mul-x : tie.Need-mul-x Inv-loop μ-loop
 mul-x c = omega arith
@@ -54,28 +52,30 @@ loop-less c = simp length-set (omega arith)
 
 loop-again : tie.Need-loop-again Inv-loop μ-loop
 loop-again c =
-    (simp length-set (omega arith), simp length-set (omega arith), one-more _ (c .before .before .before .before .before .before .before .loop .bytes) (c .before .before .before .before .before .before .before .loop .n) (c .byte-of .result) (c .before .before .before .before .before .before .before .loop .inv .2) (omega arith) (record { pair = record { there = omega (arith, ltb-true); digits = sym (c .before .before .are-digits .ensures) ∙ c .before .if2 .taken }; value = c .byte-of .ensures }))
+    put-more (c .before .before .before .before .before .before .before .loop .inv)
+    (pair-more (c .before .before .before .before .before .before .before .before .before .before .args .text .now) (c .before .before .before .before .before .before .before .loop .n) (omega (arith, ltb-true)) (sym (c .before .before .are-digits .ensures) ∙ c .before .if2 .taken))
+    (c .byte-of .ensures)
+    (omega arith)
 
 same-length : tie.Need-same-length Inv-loop μ-loop
 same-length c = omega arith
 
 returns : tie.Need-returns Inv-loop μ-loop
 returns c =
-    record { same-length = c .before .before .before .before .before .before .loop .inv .0; within = counts _ _ (c .before .before .before .before .before .before .loop .inv .1); spelled = c .before .before .before .before .before .before .loop .inv .2; ended = λ room p. true≢false (sym (p .digits) ∙ sym (c .before .are-digits .ensures) ∙ c .if2 .left) }
+    put-all (c .before .before .before .before .before .before .loop .inv)
+    (pair-other (c .before .before .before .before .before .before .before .before .before .args .text .now) (c .before .before .before .before .before .before .loop .n) (omega (arith, ltb-true)) (sym (c .before .are-digits .ensures) ∙ c .if2 .left))
 
 same-length-2 : tie.Need-same-length-2 Inv-loop μ-loop
 same-length-2 c = omega arith
 
 returns-2 : tie.Need-returns-2 Inv-loop μ-loop
-returns-2 c =
-    record { same-length = c .before .before .loop .inv .0; within = counts _ _ (c .before .before .loop .inv .1); spelled = c .before .before .loop .inv .2; ended = λ room p. omega (arith, ltb-false) }
+returns-2 c = put-all (c .before .before .loop .inv) (pair-none (c .before .before .before .before .before .args .text .now) (c .before .before .loop .n) (omega (arith, ltb-false)))
 
 same-length-3 : tie.Need-same-length-3 Inv-loop μ-loop
 same-length-3 c = omega arith
 
 returns-3 : tie.Need-returns-3 Inv-loop μ-loop
-returns-3 c =
-    record { same-length = c .before .loop .inv .0; within = counts _ _ (c .before .loop .inv .1); spelled = c .before .loop .inv .2; ended = λ room p. omega arith }
+returns-3 c = put-full (c .before .loop .inv) (omega arith)
 
 pub bytes-in-spec : {M : Type 1} → statement M
 bytes-in-spec =

@@ -1,5 +1,5 @@
 -- `input::script::digit` meets its contract: the value of a digit, 16 for another byte.
-use Rattle.input.proofs.Spelling.{value-of, other-of}
+use Rattle.input.proofs.Pairs.{value-of, other-of}
 use borrow.Author.Needs.{needs}
 use Rattle.input.proofs.script.digit.Statement.{statement}
 use Rattle.input.proofs.script.digit.Tie as tie

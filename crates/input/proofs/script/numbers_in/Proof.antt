@@ -1,21 +1,23 @@
--- `input::script::numbers_in` meets its contract: fewer bytes are left at each turn.
-use mathlib.Core.Path.{_≡_}
-use Prim.Native.Nat.{_-_, _≤_}
+-- `input::script::numbers_in` meets its contract: what was put is the start of the numbers, and fewer bytes are left at each turn.
+use Prim.Native.Nat.{_-_}
 use native.Mathlib.Omega.{arith}
-use lib.ListN.{length, length-set}
-use borrow.Author.Tests.{ltb-true}
+use lib.ListN.{length, drop}
+use borrow.Author.Tests.{ltb-true, ltb-false}
 use borrow.Author.Needs.{needs}
+use Rattle.input.specs.Script.{numbersOf}
+use Rattle.input.proofs.Putting.{Putting, put-none, put-more, put-all, put-full}
+use Rattle.input.proofs.Words.{next-number, no-number}
 use Rattle.input.proofs.script.numbers_in.Statement.{statement}
 use Rattle.input.proofs.script.numbers_in.Tie as tie
 
 abbrev Inv-loop : tie.InvT-loop
-Inv-loop text numbers₀ n₀ at₀ numbers n at = (length numbers ≡ length numbers₀) × (n ≤ length numbers)
+Inv-loop text numbers₀ n₀ at₀ numbers n at = Putting (numbersOf text) numbers₀ (numbersOf (drop at text)) numbers n
 
 abbrev μ-loop : tie.MeasureT-loop
 μ-loop text numbers₀ n₀ at₀ numbers n at = length text - at
 
 loop-holds : tie.Need-loop-holds Inv-loop μ-loop
-loop-holds c = search needs
+loop-holds c = put-none _ _
 
 add-start : tie.Need-add-start Inv-loop μ-loop
 add-start c = search needs
@@ -48,19 +50,23 @@ loop-less : tie.Need-loop-less Inv-loop μ-loop
 loop-less c = search needs
 
 loop-again : tie.Need-loop-again Inv-loop μ-loop
-loop-again c = (simp length-set (omega arith), simp length-set (omega (arith, ltb-true)))
+loop-again c =
+    put-more (c .before .before .before .before .before .loop .inv)
+    (next-number (c .before .before .before .before .before .before .before .before .args .text .now) (c .before .before .before .before .before .loop .at) (c .before .before .end-at .result) (omega arith) (c .before .before .end-at .ensures))
+    (c .number-in .ensures)
+    (omega (arith, ltb-true))
 
 same-length : tie.Need-same-length Inv-loop μ-loop
 same-length c = search needs
 
 returns : tie.Need-returns Inv-loop μ-loop
-returns c = search needs
+returns c = put-full (c .before .before .loop .inv) (omega (arith, ltb-false))
 
 same-length-2 : tie.Need-same-length-2 Inv-loop μ-loop
 same-length-2 c = search needs
 
 returns-2 : tie.Need-returns-2 Inv-loop μ-loop
-returns-2 c = search needs
+returns-2 c = put-all (c .before .loop .inv) (no-number (c .before .before .before .before .args .text .now) (c .before .loop .at) (omega arith))
 
 pub numbers-in-spec : {M : Type 1} → statement M
 numbers-in-spec =

@@ -1,0 +1,43 @@
+-- `input::spelling::put_post` meets its contract: the bytes of h, of w and of p, one behind the other.
+use mathlib.Core.Path.{refl}
+use native.Mathlib.Omega.{arith}
+use Rattle.input.specs.Spelling.{twoBytes, postBytes}
+use Rattle.input.proofs.Putting.{put-then}
+use borrow.Author.Needs.{needs}
+use Rattle.input.proofs.spelling.put_post.Statement.{statement}
+use Rattle.input.proofs.spelling.put_post.Tie as tie
+
+put-two-requires : tie.Need-put-two-requires
+put-two-requires c κs = search needs
+
+add-put-two : tie.Need-add-put-two
+add-put-two c = search needs
+
+put-two-requires-2 : tie.Need-put-two-requires-2
+put-two-requires-2 c κs = search needs
+
+add-put-four : tie.Need-add-put-four
+add-put-four c = search needs
+
+put-four-requires : tie.Need-put-four-requires
+put-four-requires c κs = search needs
+
+same-length : tie.Need-same-length
+same-length c = search needs
+
+returns : tie.Need-returns
+unfolding postBytes twoBytes
+returns c =
+    put-then _ _ _ _ _ (put-then _ _ _ _ _ (c .before .before .before .before .before .before .before .before .before .before .put-two .ensures) (c .before .before .before .before .before .before .put-two2 .ensures) refl (omega arith)) (c .before .before .put-four .ensures) refl (omega arith)
+
+pub put-post-spec : {M : Type 1} → statement M
+put-post-spec =
+    tie.close
+    (tie.spec
+    put-two-requires
+    add-put-two
+    put-two-requires-2
+    add-put-four
+    put-four-requires
+    same-length
+    returns)
