@@ -1,5 +1,6 @@
 // The lines that the program writes, without their ends.
 use measures::Answer;
+use measures::Pence;
 ghost use mathlib.Core.Path.{_≡_};
 ghost use lib.IntN.{natAbs};
 
@@ -16,17 +17,17 @@ fn start(label: &[u8], refusal: u64) {
 }
 
 // Writes a label, a refusal and an amount.
-fn pence(label: &[u8], refusal: u64, n: u64) {
+fn pence(label: &[u8], refusal: u64, amount: Pence) {
     start(label, refusal);
-    number(b", ", n);
+    number(b", ", amount.0);
     io::write_all(1, b" pence");
 }
 
 // Writes a label and an answer, its amount 0 when refused.
 pub fn answer(label: &[u8], given: Answer) {
     match given {
-        Answer::Amount(amount) => pence(label, 0, amount.0),
-        Answer::Refused(refusal) => pence(label, refusal, 0),
+        Answer::Amount(amount) => pence(label, 0, amount),
+        Answer::Refused(refusal) => pence(label, refusal, Pence(0)),
     }
 }
 

@@ -3,43 +3,40 @@ use super::lines;
 use input::bytes_in;
 use input::end_at;
 use input::numbers_in;
+use input::spelled;
+use measures::Minutes;
+use measures::Pence;
+use posts::Post;
 use posts::posts_call;
-ghost use Prim.Native.Nat.{_+_, _≤_};
-ghost use lib.ListN.{length};
-ghost use Rattle.io.specs.Counts.{Counts};
+ghost use Prim.Native.Nat.{_≤_, _<_};
+ghost use mathlib.Core.Path.{_≡_};
+ghost use lib.ListN.{drop};
+ghost use Rattle.figures.specs.Posts.{postFrom, postsOfNumbers};
 
-// Puts the last two bytes of a number at a place.
-fn put_two(bytes: &mut [u8], at: usize, n: u64)
-    requires { ⌜ at + 2 ≤ length (now bytes) ⌝ }
+// The post whose h, w and p are the numbers from a place on.
+fn post(n: &[u64; 52], at: usize) -> Post
+    requires { ⌜ at < 50 ⌝ }
+    ensures { λ r. ⌜ r ≡ postFrom (now (n .entry)) at ⌝ }
 {
-    bytes[at] = (n / 256 % 256) as u8;
-    bytes[at + 1] = (n % 256) as u8;
+    Post {
+        contracted: Minutes(n[at]),
+        whole: Minutes(n[at + 1]),
+        pay: Pence(n[at + 2]),
+    }
 }
 
-// Puts a post, h 2, w 2, p 4 bytes, at a place of the bytes.
-fn put(bytes: &mut [u8], at: usize, h: u64, w: u64, p: u64)
-    requires { ⌜ at + 8 ≤ length (now bytes) ⌝ }
+// The posts of three numbers each after the first number.
+fn posts_in(numbers: [u64; 52]) -> [Post; 17]
+    ensures { λ r. ⌜ r ≡ postsOfNumbers (drop 1 numbers) ⌝ }
 {
-    put_two(bytes, at, h);
-    put_two(bytes, at + 2, w);
-    put_two(bytes, at + 4, p / 65536);
-    put_two(bytes, at + 6, p);
-}
-
-// Puts posts, three numbers h, w, p each after the first number, into bytes; answers how many bytes they take.
-fn put_all(numbers: &[u64; 52], posts: usize, bytes: &mut [u8]) -> usize
-    requires { ⌜ (posts ≤ 17) × (136 ≤ length (now bytes)) ⌝ }
-    ensures { λ r. ⌜ Counts r (now (bytes .exit)) ⌝ }
-{
+    let first = post(&numbers, 1);
+    let mut list = [first; 17];
     let mut i: usize = 0;
-    while i < posts {
-        let h = numbers[3 * i + 1];
-        let w = numbers[3 * i + 2];
-        let p = numbers[3 * i + 3];
-        put(bytes, 8 * i, h, w, p);
+    while i < 17 {
+        list[i] = post(&numbers, 3 * i + 1);
         i += 1;
     }
-    8 * posts
+    list
 }
 
 // Writes the numbers in the lent places, the first of a list.
@@ -66,8 +63,8 @@ fn on_bytes(label: &[u8], bytes: &[u8], n: u64) {
 pub fn on_posts(label: &[u8], words: &[u8]) {
     let mut numbers = [0u64; 52];
     let count = numbers_in(words, &mut numbers);
-    let mut bytes = [0u8; 136];
-    let n = put_all(&numbers, count / 3, &mut bytes);
+    let bytes = spelled(posts_in(numbers));
+    let n = 8 * (count / 3);
     on_bytes(label, &bytes[..n], numbers[0]);
 }
 

@@ -1,5 +1,6 @@
 // The posts of a year as a list of records and as bytes: both calls, side by side.
 // A line has the refusal, the number, and the 18 places, of which the first are lent; each holds 9 before the call.
+use input::spelled;
 use libc::STDOUT_FILENO;
 use measures::Answer;
 use measures::Minutes;
@@ -7,47 +8,19 @@ use measures::Pence;
 use posts::Post;
 use posts::posts_call;
 use records::records_front_call;
-ghost use Prim.Native.Nat.{_≤_, _<_};
+ghost use Prim.Native.Nat.{_≤_};
+ghost use mathlib.Core.Path.{_≡_};
+ghost use Rattle.posts.specs.Posts.{postOf};
 
-fn post(contracted: u64, whole: u64, pay: u64) -> Post {
+// The post of contracted minutes, whole-time minutes and a yearly pay.
+fn post(contracted: Minutes, whole: Minutes, pay: Pence) -> Post
+    ensures { λ r. ⌜ r ≡ postOf (contracted .0) (whole .0) (pay .0) ⌝ }
+{
     Post {
-        contracted: Minutes(contracted),
-        whole: Minutes(whole),
-        pay: Pence(pay),
+        contracted,
+        whole,
+        pay,
     }
-}
-
-// The byte of a number at a unit of 1, 256, 65,536 or 16,777,216.
-fn byte(n: u64, unit: u64) -> u8
-    requires { ⌜ 0 < unit ⌝ }
-{
-    (n / unit % 256) as u8
-}
-
-// A post as the 8 bytes that begin at a place.
-fn spell(x: Post, bytes: &mut [u8; 136], at: usize)
-    requires { ⌜ at ≤ 128 ⌝ }
-{
-    bytes[at] = byte(x.contracted.0, 256);
-    bytes[at + 1] = byte(x.contracted.0, 1);
-    bytes[at + 2] = byte(x.whole.0, 256);
-    bytes[at + 3] = byte(x.whole.0, 1);
-    bytes[at + 4] = byte(x.pay.0, 16777216);
-    bytes[at + 5] = byte(x.pay.0, 65536);
-    bytes[at + 6] = byte(x.pay.0, 256);
-    bytes[at + 7] = byte(x.pay.0, 1);
-}
-
-// The posts of a list in bytes.
-fn spelled(list: [Post; 17]) -> [u8; 136] {
-    let mut bytes = [0u8; 136];
-    let mut i: usize = 0;
-    while i < 17 {
-        let x = list[i];
-        spell(x, &mut bytes, 8 * i);
-        i += 1;
-    }
-    bytes
 }
 
 fn show_number(n: u64) {
@@ -98,9 +71,9 @@ fn run(list: [Post; 17], n: usize, lent: usize)
 }
 
 fn main() {
-    let twenty = post(1200, 2250, 1000000);
-    let full = post(2250, 2250, 2000000);
-    let bad = post(2251, 2250, 2000000);
+    let twenty = post(Minutes(1200), Minutes(2250), Pence(1000000));
+    let full = post(Minutes(2250), Minutes(2250), Pence(2000000));
+    let bad = post(Minutes(2251), Minutes(2250), Pence(2000000));
     let mut list = [twenty; 17];
     // No post, one, two at equal rates with a place past the last; fewer places than posts.
     run(list, 0, 0);
@@ -112,7 +85,7 @@ fn main() {
     run(list, 17, 18);
     run(list, 17, 2);
     // The second post has the higher rate.
-    list[1] = post(1200, 2250, 1200000);
+    list[1] = post(Minutes(1200), Minutes(2250), Pence(1200000));
     run(list, 2, 2);
     // A bad post in the middle; 22 comes before 7.
     list[1] = bad;
@@ -120,12 +93,12 @@ fn main() {
     run(list, 3, 2);
     // One whole-time post; a second is 8, and comes before the bad post after it.
     list[0] = full;
-    list[1] = post(300, 2250, 900000);
+    list[1] = post(Minutes(300), Minutes(2250), Pence(900000));
     run(list, 2, 4);
     list[2] = full;
     list[3] = bad;
     run(list, 4, 18);
     // A second whole-time post with too high a pay: 7 comes before 8.
-    list[2] = post(2250, 2250, 1000000001);
+    list[2] = post(Minutes(2250), Minutes(2250), Pence(1000000001));
     run(list, 4, 18);
 }
