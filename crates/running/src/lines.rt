@@ -6,11 +6,12 @@ use measures::Pence;
 use rules::Amounts;
 use rules::Outcome;
 ghost use Rattle.cases.specs.Running.{IsCase};
+ghost use Rattle.running.specs.Offered.{withWord, withWords, HandedOn};
 
 // Offers a frame in hexadecimal to a case and adds its refusal to the line.
 fn list(case: Case, digits: &[u8]) -> Case
     requires { ⌜ IsCase case ⌝ }
-    ensures { λ r. ⌜ IsCase r ⌝ }
+    ensures { λ r. ⌜ HandedOn case (withWord (now (digits .entry))) r ⌝ }
 {
     let mut bytes = io::buffer();
     let n = bytes_in(digits, &mut bytes);
@@ -23,7 +24,7 @@ fn list(case: Case, digits: &[u8]) -> Case
 // A line of a label and the refusals of frames, each after one byte that parts it from what stands before.
 pub fn offer(case: Case, label: &[u8], frames: &[u8]) -> Case
     requires { ⌜ IsCase case ⌝ }
-    ensures { λ r. ⌜ IsCase r ⌝ }
+    ensures { λ r. ⌜ HandedOn case (withWords (now (frames .entry))) r ⌝ }
 {
     io::write_all(1, label);
     let mut c = case;

@@ -14,11 +14,12 @@ use lines::offer;
 ghost use Prim.Native.Nat.{_≤_};
 ghost use lib.ListN.{length};
 ghost use Rattle.cases.specs.Running.{IsCase};
+ghost use Rattle.running.specs.Offered.{afterLine, HandedOn};
 
 // Does a line, and gives the case after it.
 fn line(case: Case, text: &[u8]) -> Case
     requires { ⌜ IsCase case ⌝ }
-    ensures { λ r. ⌜ IsCase r ⌝ }
+    ensures { λ r. ⌜ HandedOn case (afterLine (now (text .entry))) r ⌝ }
 {
     if text.len() < 2 {
         return Case::start();
