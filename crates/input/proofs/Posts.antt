@@ -5,7 +5,10 @@ use mathlib.Core.Path.{_≡_, refl, sym, ap, _∙_}
 use native.Mathlib.Omega.{arith}
 use lib.ListN.{length, getD, take, drop, length-append, drop-of-length-le}
 use lib.Seq.{take-at, take-all, length-take-le}
+use Rattle.fields.specs.Fields.{oneAt, twoAt, fourAt}
 use Rattle.posts.specs.declared.Post.{Post}
+use Rattle.posts.specs.Posts.{h, w, p, postOf}
+use Rattle.posts.specs.Call.{postAt}
 use Rattle.input.specs.Spelling.{twoBytes, fourBytes, postBytes, postsBytes, putAt}
 use Rattle.input.proofs.Rest.{rest-at}
 
@@ -46,3 +49,11 @@ module _ {list : List Post} {bytes : List ℕ} {i : ℕ} (s : Spelling list byte
       ∙ ap (λ (b : List ℕ). b ++ []) (sym (take-all (8 * i) bytes (omega (arith, s .room))))
       ∙ ap (λ (xs : List Post). take (8 * i) bytes ++ postsBytes xs) (sym (drop-of-length-le list {i = i} (omega arith)))
       ∙ s .is
+
+same-post : (x : Post) {a b c : ℕ} → a ≡ h x → b ≡ w x → c ≡ p x → postOf a b c ≡ x
+same-post x e f g = rw (e, f, g) refl
+
+-- what is spelled is what the posts call reads, where the fields fit their widths
+pub read-back : (x : Post) → h x < 65536 → w x < 65536 → p x < 4294967296 → postAt (postBytes x) 0 ≡ x
+unfolding postAt fourAt twoAt oneAt postBytes fourBytes twoBytes
+read-back x h-fits w-fits p-fits = same-post x (omega arith) (omega arith) (omega arith)
