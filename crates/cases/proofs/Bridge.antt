@@ -38,7 +38,12 @@ pub after-one-more : (ds : List Decoded) (d : Decoded) → afterAll (ds ++ d ∷
 unfolding afterAll
 after-one-more ds d = after-end refusalOfCase nextOfCase start ds d
 
+-- the frames kept with one more frame tried
+pub kept-end : (ds : List Decoded) (d : Decoded) → kept (ds ++ d ∷ []) ≡ tried refusalOfDecoded keepDecoded (kept ds) d
+unfolding kept
+kept-end ds d = after-end refusalOfDecoded keepDecoded nothing ds d
+
 -- a frame that is not refused joins the frames kept
 pub kept-one-more : (ds : List Decoded) (d : Decoded) → refusalOfDecoded (kept ds) d ≡ 0 → kept (ds ++ d ∷ []) ≡ keepDecoded (kept ds) d
-unfolding kept tried
-kept-one-more ds d r = after-end refusalOfDecoded keepDecoded nothing ds d ∙ rw (eq-eqb _ _ r) refl
+unfolding tried
+kept-one-more ds d r = kept-end ds d ∙ rw (eq-eqb _ _ r) refl

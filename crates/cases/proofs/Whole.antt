@@ -2,21 +2,16 @@
 -- rules, the answer of the frames kept and demand 3. What a case is made of is never looked at here.
 use mathlib.Core.Path.{_≡_, refl, sym, _∙_, ap, ap₂}
 use mathlib.Core.List.{List, [], _∷_, _++_, append-assoc, append-nil}
-use Rattle.measures.specs.Tries.{tried, after}
-use Rattle.measures.proofs.Trying.{after-end}
+use Rattle.measures.specs.Tries.{after}
 use Rattle.frames.specs.declared.Decoded.{Decoded}
 use Rattle.rules.specs.declared.Outcome.{Outcome}
-use Rattle.rules.specs.Rules.{Kept, nothing, refusalOfDecoded, keepDecoded, kept, refusalsFrom}
+use Rattle.rules.specs.Rules.{Kept, kept, refusalsFrom}
 use Rattle.cases.specs.declared.Case.{Case}
 use Rattle.cases.specs.declared.Taken.{Taken}
 use Rattle.cases.specs.State.{afterAll}
 use Rattle.cases.specs.Running.{IsCase}
 use Rattle.cases.specs.Whole.{offered, Engine, handed, refusals, WholeList}
-
--- the frames kept with one more, or as they were
-kept-end : (ds : List Decoded) (d : Decoded) → kept (ds ++ d ∷ []) ≡ tried refusalOfDecoded keepDecoded (kept ds) d
-unfolding kept
-kept-end ds d = after-end refusalOfDecoded keepDecoded nothing ds d
+use Rattle.cases.proofs.Bridge.{kept-end}
 
 module _ {X : Type 0} (read : X → Decoded) (start : Case) (take : Case → X → Taken) (close : Case → Outcome) (e : Engine read start take close) where
   -- the case had after more frames
