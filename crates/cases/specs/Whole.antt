@@ -11,12 +11,8 @@ use Rattle.cases.specs.declared.Taken.{Taken}
 use Rattle.cases.specs.State.{afterAll}
 use Rattle.cases.specs.Running.{IsCase, TakenFrom, ClosedAfter}
 
--- the frames of a list as the rules have them: by `decoded` where they are offered in bytes, by `Decoded.Frame` where they are decoded already
-unfoldable pub offered : {X : Type 0} → (X → Decoded) → List X → List Decoded
-offered read [] = []
-offered read (x ∷ xs) = read x ∷ offered read xs
-
--- the contracts of the three methods, met by any functions whatever
+-- the contracts of the three methods, met by any functions whatever. What is offered is read by `decoded` where it comes in bytes (`take`), and is
+-- `Decoded.Frame` of it where it is decoded already (`take_frame`).
 pub record Engine {X : Type 0} (read : X → Decoded) (start : Case) (take : Case → X → Taken) (close : Case → Outcome) : Type 0 where
   pub starts : IsCase start × (start ≡ afterAll [])
   pub takes : (c : Case) (x : X) → IsCase c → TakenFrom c (read x) (take c x)
