@@ -1,10 +1,11 @@
 //! A case, worked line by line.
 
-use super::benefits::{after_year, pension_debit, reduced, FinalPay};
+use super::benefits::{after_year, pension_and_charge, pension_debit, reduced};
 use super::calendar::{completed_months, try_dates, Date};
 use super::posts::{Post, YearPosts};
 use super::reading::{line, why_no_frame};
 use super::{unless, LARGEST_PAY};
+use second::benefits::FinalPay;
 use second::Outcome;
 
 /// The largest text in bytes, and the most years of a case.
@@ -164,7 +165,7 @@ impl Case {
         let in_order = matches!(self.stage, Stage::Member | Stage::Years);
         unless(in_order && self.has_section, 4)?;
         final_pay.tried()?;
-        self.final_pay = Some(final_pay.pension_and_charge());
+        self.final_pay = Some(pension_and_charge(&final_pay));
         self.stage = Stage::FinalPay;
         Ok(after)
     }
