@@ -4,9 +4,10 @@ use mathlib.Core.Bool.{true, _&&_}
 use Prim.Native.Nat.{ℕ, _≤_}
 use native.Mathlib.Omega.{arith}
 use lib.Dec.{leb}
-use Rattle.measures.specs.Refusals.{first}
+use Rattle.measures.specs.Refusals.{firstRefusal}
 use Rattle.measures.proofs.Tests.{passed, parts, neither}
 use Rattle.benefits.specs.declared.FinalPay.{FinalPay}
+use Rattle.benefits.specs.Limits.{highestAmount}
 use Rattle.benefits.specs.Steps.{paysWithin, termsWithin, finalPayRefusal, amountsWithin, abatementRefusal}
 use Rattle.benefits.specs.Bounds.{FinalPayBounds}
 
@@ -27,15 +28,16 @@ accepted-final-pay f e =
     }
 
 -- no refusal of either of two
-one-none : (a b : ℕ) → first a b ≡ 0 → a ≡ 0
+one-none : (a b : ℕ) → firstRefusal a b ≡ 0 → a ≡ 0
 one-none a b e = neither a b e .0
 
-other-none : (a b : ℕ) → first a b ≡ 0 → b ≡ 0
+other-none : (a b : ℕ) → firstRefusal a b ≡ 0 → b ≡ 0
 other-none a b e = neither a b e .1
 
 ruleset none-of-two = (one-none, other-none)
 
-pub accepted-abatement : (pension earned previous new : ℕ) → abatementRefusal pension earned previous new ≡ 0 → (pension ≤ 1000000000000) × (earned ≤ 1000000000000) × (previous ≤ 1000000000000) × (new ≤ 1000000000000) × (earned ≤ pension)
+pub accepted-abatement : (pension earned previous new : ℕ) → abatementRefusal pension earned previous new ≡ 0
+    → (pension ≤ highestAmount) × (earned ≤ highestAmount) × (previous ≤ highestAmount) × (new ≤ highestAmount) × (earned ≤ pension)
 unfolding abatementRefusal amountsWithin
 accepted-abatement pension earned previous new e =
     let amounts : amountsWithin pension earned previous new ≡ true = passed (amountsWithin pension earned previous new) 24 (omega arith) (search none-of-two) in

@@ -1,23 +1,25 @@
 -- The pension after at most 50 years is at most 13,480,649,093,765 pence.
 use mathlib.Core.Path.{_≡_, refl}
 use Prim.Native.Nat.{ℕ, zero, suc, _^_, _≤_}
-use native.Mathlib.Nat.{le-refl, le-of-suc-le-suc}
+use native.Mathlib.Nat.{le-refl, le-of-suc-le-suc, not-suc-le-zero}
 use native.Mathlib.Omega.{arith}
 use Rattle.measures.specs.Rounding.{rounded}
+use Rattle.benefits.specs.Limits.{highestRevaluation}
 use Rattle.benefits.specs.Steps.{revalued, accrued, afterYear}
+use Rattle.measures.specs.Limits.{highestAggregate}
 use Rattle.benefits.specs.Bounds.{ceiling}
 use Rattle.benefits.proofs.Monotone.{afterYear-mono}
 
 -- one year more, within the limits of its frames
-pub ceiling-step : (k p r a : ℕ) → p ≤ ceiling k → r ≤ 2000 → a ≤ 16000000000 → afterYear p r a ≤ ceiling (suc k)
+pub ceiling-step : (k p r a : ℕ) → p ≤ ceiling k → r ≤ highestRevaluation → a ≤ highestAggregate → afterYear p r a ≤ ceiling (suc k)
 unfolding ceiling
 ceiling-step k p r a h g l = afterYear-mono h g l
 
 pub ceiling-mono : (j k : ℕ) → j ≤ k → ceiling j ≤ ceiling k
 unfolding ceiling
 ceiling-mono zero k h = omega arith
-ceiling-mono (suc j) zero h = absurd (let z : ⊥ = omega arith in z)
-ceiling-mono (suc j) (suc k) h = afterYear-mono (ceiling-mono j k (le-of-suc-le-suc h)) (le-refl 2000) (le-refl 16000000000)
+ceiling-mono (suc j) zero h = absurd (not-suc-le-zero h)
+ceiling-mono (suc j) (suc k) h = afterYear-mono (ceiling-mono j k (le-of-suc-le-suc h)) (le-refl highestRevaluation) (le-refl highestAggregate)
 
 pub ceiling-fifty : ceiling 50 ≡ 13480649093765
 unfolding ceiling afterYear revalued accrued rounded

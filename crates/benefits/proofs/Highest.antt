@@ -27,7 +27,7 @@ after-three : (year a : ℕ) {b c limit : ℕ} → year < 3 → b < limit → c 
 after-three year a {b} {c} {limit} h k l = by (eqb year 3) (eqb year 2) refl
   where
     by : (s t : Bool) → eqb year 3 ≡ s → cond s a (cond t b c) < limit
-    by true t e = absurd (let z : ⊥ = omega (arith, eqb-true) in z)
+    by true t e = omega (arith, eqb-true)
     by false true e = k
     by false false e = l
 
@@ -48,7 +48,7 @@ final-latest f = by (eqb (f .pay1 .0) (finalPay f)) (eqb (f .pay2 .0) (finalPay 
           from = omega arith;
           to = omega arith;
           highest = eqb-true _ _ p;
-          later = λ other h k. absurd (let z : ⊥ = omega arith in z);
+          later = λ other h k. omega arith;
         }
     by false true p q =
         record {

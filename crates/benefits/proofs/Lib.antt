@@ -3,4 +3,3 @@ pub mod Limits
 pub mod Ceiling
 pub mod Highest
 pub mod Accepted
-pub mod Starred

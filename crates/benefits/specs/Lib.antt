@@ -1,3 +1,3 @@
+pub mod Limits
 pub mod Steps
 pub mod Bounds
-pub mod Starred

@@ -3,11 +3,13 @@ use Prim.Native.Nat.{ℕ, _+_, _*_, _-_, _/_, _%_, _^_, min, max}
 use mathlib.Core.Bool.{Bool, _&&_, cond}
 use lib.Dec.{leb, eqb}
 use Rattle.measures.specs.Rounding.{rounded}
-use Rattle.measures.specs.Refusals.{within, unless, first}
-use Rattle.measures.specs.Answers.{answerOf}
+use Rattle.measures.specs.Limits.{highestPay}
+use Rattle.measures.specs.Refusals.{within, unless, firstRefusal}
+use Rattle.measures.specs.Answers.{answerWith}
 use Rattle.measures.specs.declared.Answer.{Answer}
 use Rattle.benefits.specs.declared.FinalPay.{FinalPay}
 use Rattle.benefits.specs.declared.BestPay.{BestPay}
+use Rattle.benefits.specs.Limits.{highestAllowance, mostDays, highestChargeFactor, highestAmount}
 
 -- ---- Years
 
@@ -146,13 +148,13 @@ abatement pension earned previous new =
 
 -- "a pay above 1,000,000,000," turned round
 unfoldable pub paysWithin : FinalPay → Bool
-paysWithin f = leb (f .pay4 .0) 1000000000 && leb (f .pay3 .0) 1000000000 && leb (f .pay2 .0) 1000000000 && leb (f .pay1 .0) 1000000000
+paysWithin f = leb (f .pay4 .0) highestPay && leb (f .pay3 .0) highestPay && leb (f .pay2 .0) highestPay && leb (f .pay1 .0) highestPay
 
 -- "allowance above 1,000, controls above 7, days above 16,425, factor 0 or above 10,000." turned round
 unfoldable pub termsWithin : FinalPay → Bool
 termsWithin f =
-    leb (f .allowance3) 1000 && leb (f .allowance2) 1000 && leb (f .allowance1) 1000 && leb (f .controls) 7
-    && leb (f .days) 16425 && within 1 10000 (f .factor)
+    leb (f .allowance3) highestAllowance && leb (f .allowance2) highestAllowance && leb (f .allowance1) highestAllowance
+    && leb (f .controls) 7 && leb (f .days) mostDays && within 1 highestChargeFactor (f .factor)
 
 -- "9, a pay above .., factor 0 or above 10,000."
 unfoldable pub finalPayRefusal : FinalPay → ℕ
@@ -161,18 +163,18 @@ finalPayRefusal f = unless (paysWithin f && termsWithin f) 9
 -- "an amount above 1,000,000,000,000;" turned round
 unfoldable pub amountsWithin : ℕ → ℕ → ℕ → ℕ → Bool
 amountsWithin pension earned previous new =
-    leb pension 1000000000000 && leb earned 1000000000000 && leb previous 1000000000000 && leb new 1000000000000
+    leb pension highestAmount && leb earned highestAmount && leb previous highestAmount && leb new highestAmount
 
 -- "24, an amount above 1,000,000,000,000; 25, earned above pension."
 unfoldable pub abatementRefusal : ℕ → ℕ → ℕ → ℕ → ℕ
 abatementRefusal pension earned previous new =
-    first (unless (amountsWithin pension earned previous new) 24) (unless (leb earned pension) 25)
+    firstRefusal (unless (amountsWithin pension earned previous new) 24) (unless (leb earned pension) 25)
 
 -- "Charge apart: 9." "Each of these calls .. gives 0 for its number when refused."
 unfoldable pub chargeAnswer : FinalPay → Answer
-chargeAnswer f = answerOf (finalPayRefusal f) (charge f)
+chargeAnswer f = answerWith (finalPayRefusal f) (charge f)
 
 -- "Abatement apart: 24, an amount above ..; 25, earned above pension."
 unfoldable pub abatementAnswer : ℕ → ℕ → ℕ → ℕ → Answer
 abatementAnswer pension earned previous new =
-    answerOf (abatementRefusal pension earned previous new) (abatement pension earned previous new)
+    answerWith (abatementRefusal pension earned previous new) (abatement pension earned previous new)

@@ -1,11 +1,37 @@
 // The steps on amounts: the pension of the years, final pay, reduction, debits, the final pay charge and abatement.
 use measures::Answer;
+use measures::HIGHEST_PAY;
 use measures::Pence;
+use measures::rounded;
+use measures::scaled;
 ghost use mathlib.Core.Path.{_≡_};
 ghost use Prim.Native.Nat.{_-_, _^_, _≤_, _<_, min, max};
-ghost use Rattle.measures.specs.Answers.{refusalOf, amountOf, numberUnless};
+ghost use Rattle.measures.specs.Limits.{highestPay, highestAggregate};
+ghost use Rattle.measures.specs.Answers.{answerRefusal, answerAmount, numberUnless};
+ghost use Rattle.benefits.specs.Limits.{highestRevaluation, highestAllowance, mostDays, highestChargeFactor, highestEarlyFactor, highestPot, highestAmount};
 ghost use Rattle.benefits.specs.Steps.{revalued, accrued, afterYear, bestPay, sectionPension, lumpSum, reduced, pensionDebit, lumpDebit, payIn, controlled, raised, allowanceIn, allowedFrom, allowedIn, excess, chargeFrom, charge, abatement, paysWithin, termsWithin, finalPayRefusal, abatementRefusal, chargeAnswer, abatementAnswer};
 ghost use Rattle.benefits.specs.Bounds.{FinalPayBounds};
+
+// The highest revaluation of a year, in ten-thousandths.
+pub const HIGHEST_REVALUATION: u64 = 2000;
+
+// The highest allowance of a year, in thousandths.
+const HIGHEST_ALLOWANCE: u64 = 1000;
+
+// The most days of service.
+const MOST_DAYS: u64 = 16425;
+
+// The highest factor of a charge, in hundredths.
+const HIGHEST_CHARGE_FACTOR: u64 = 10000;
+
+// The highest factor of a reduction for early payment, in thousandths.
+pub const HIGHEST_EARLY_FACTOR: u64 = 1000;
+
+// The highest pot of a debit, in pence: the number of the highest pay.
+pub const HIGHEST_POT: u64 = HIGHEST_PAY;
+
+// The highest amount that abatement takes, in pence.
+const HIGHEST_AMOUNT: u64 = 1000000000000;
 
 // The days of service that earn a 1995 pension of the whole final pay.
 const FULL_SERVICE: u64 = 29200;
@@ -66,22 +92,22 @@ fn less(one: Pence, other: Pence) -> Pence
 
 // The pension revalued by ten-thousandths.
 pub fn revalued(pension: Pence, revaluation: u64) -> Pence
-    requires { ⌜ (pension .0 ≤ 2 ^ 50) × (revaluation ≤ 2000) ⌝ }
+    requires { ⌜ (pension .0 ≤ 2 ^ 50) × (revaluation ≤ highestRevaluation) ⌝ }
     ensures { λ r. ⌜ r .0 ≡ revalued (pension .0) revaluation ⌝ }
 {
-    Pence(measures::rounded(pension.0 * (10000 + revaluation), 10000))
+    Pence(scaled(pension.0, 10000 + revaluation, 10000))
 }
 
 // The pension that a year's aggregate earns.
 pub fn accrued(aggregate: Pence) -> Pence
     ensures { λ r. ⌜ r .0 ≡ accrued (aggregate .0) ⌝ }
 {
-    Pence(measures::rounded(aggregate.0, 54))
+    Pence(rounded(aggregate.0, 54))
 }
 
 // The pension after one more year.
 pub fn after_year(pension: Pence, revaluation: u64, aggregate: Pence) -> Pence
-    requires { ⌜ (pension .0 ≤ 2 ^ 50) × (revaluation ≤ 2000) × (aggregate .0 ≤ 16000000000) ⌝ }
+    requires { ⌜ (pension .0 ≤ 2 ^ 50) × (revaluation ≤ highestRevaluation) × (aggregate .0 ≤ highestAggregate) ⌝ }
     ensures { λ r. ⌜ r .0 ≡ afterYear (pension .0) revaluation (aggregate .0) ⌝ }
 {
     let old = revalued(pension, revaluation);
@@ -117,15 +143,15 @@ pub fn final_pay(f: FinalPay) -> BestPay
 
 // The 1995 pension of a final pay.
 pub fn section_pension(pay: Pence, days: u64) -> Pence
-    requires { ⌜ (pay .0 ≤ 1000000000000) × (days ≤ 16425) ⌝ }
+    requires { ⌜ (pay .0 ≤ highestAmount) × (days ≤ mostDays) ⌝ }
     ensures { λ r. ⌜ r .0 ≡ sectionPension (pay .0) days ⌝ }
 {
-    Pence(measures::rounded(pay.0 * days, FULL_SERVICE))
+    Pence(scaled(pay.0, days, FULL_SERVICE))
 }
 
 // The lump sum that goes with a 1995 pension.
 pub fn lump_sum(pension: Pence) -> Pence
-    requires { ⌜ pension .0 ≤ 1000000000000 ⌝ }
+    requires { ⌜ pension .0 ≤ highestAmount ⌝ }
     ensures { λ r. ⌜ r .0 ≡ lumpSum (pension .0) ⌝ }
 {
     Pence(LUMP_TIMES * pension.0)
@@ -133,23 +159,23 @@ pub fn lump_sum(pension: Pence) -> Pence
 
 // An amount reduced for early payment by a factor in thousandths.
 pub fn reduced(amount: Pence, factor: u64) -> Pence
-    requires { ⌜ (amount .0 ≤ 2 ^ 50) × (factor ≤ 1000) ⌝ }
+    requires { ⌜ (amount .0 ≤ 2 ^ 50) × (factor ≤ highestEarlyFactor) ⌝ }
     ensures { λ r. ⌜ r .0 ≡ reduced (amount .0) factor ⌝ }
 {
-    Pence(measures::rounded(amount.0 * factor, 1000))
+    Pence(scaled(amount.0, factor, 1000))
 }
 
 // The debit on a pension for a pot, by a factor in hundredths.
 pub fn pension_debit(pot: Pence, factor: u64) -> Pence
-    requires { ⌜ (pot .0 ≤ 1000000000) × (0 < factor) ⌝ }
+    requires { ⌜ (pot .0 ≤ highestPot) × (0 < factor) ⌝ }
     ensures { λ r. ⌜ r .0 ≡ pensionDebit (pot .0) factor ⌝ }
 {
-    Pence(measures::rounded(pot.0 * 100, factor))
+    Pence(scaled(pot.0, 100, factor))
 }
 
 // The debit on the lump sum that goes with a debit on a 1995 pension.
 pub fn lump_debit(debit: Pence) -> Pence
-    requires { ⌜ debit .0 ≤ 1000000000000 ⌝ }
+    requires { ⌜ debit .0 ≤ highestAmount ⌝ }
     ensures { λ r. ⌜ r .0 ≡ lumpDebit (debit .0) ⌝ }
 {
     Pence(LUMP_TIMES * debit.0)
@@ -170,10 +196,10 @@ fn controlled(controls: u64, year: u64) -> bool
 
 // A pay raised by an allowance in thousandths.
 fn raised(pay: Pence, allowance: u64) -> Pence
-    requires { ⌜ (pay .0 ≤ 1000000000000) × (allowance ≤ 1000) ⌝ }
+    requires { ⌜ (pay .0 ≤ highestAmount) × (allowance ≤ highestAllowance) ⌝ }
     ensures { λ r. ⌜ r .0 ≡ raised (pay .0) allowance ⌝ }
 {
-    Pence(measures::rounded(pay.0 * (1000 + allowance), 1000))
+    Pence(scaled(pay.0, 1000 + allowance, 1000))
 }
 
 // The pay of year 3, 2 or 1.
@@ -204,7 +230,7 @@ fn allowance_in(f: FinalPay, year: u64) -> u64
 
 // The allowed pay of a year: a base raised by its allowance where it is controlled, else its pay.
 fn allowed_from(f: FinalPay, year: u64, base: Pence) -> Pence
-    requires { ⌜ FinalPayBounds f × (base .0 ≤ 1000000000) ⌝ }
+    requires { ⌜ FinalPayBounds f × (base .0 ≤ highestPay) ⌝ }
     ensures { λ r. ⌜ r .0 ≡ allowedFrom f year (base .0) ⌝ }
 {
     if controlled(f.controls, year) {
@@ -244,12 +270,12 @@ pub fn excess(f: FinalPay) -> Pence
 
 // The employer's charge for an excess, by service days and a factor in hundredths.
 pub fn charge_from(excess: Pence, days: u64, factor: u64) -> Pence
-    requires { ⌜ (excess .0 ≤ 1000000000000) × (days ≤ 16425) × (factor ≤ 10000) ⌝ }
+    requires { ⌜ (excess .0 ≤ highestAmount) × (days ≤ mostDays) × (factor ≤ highestChargeFactor) ⌝ }
     ensures { λ r. ⌜ r .0 ≡ chargeFrom (excess .0) days factor ⌝ }
 {
     let pension = section_pension(excess, days);
     let lump = lump_sum(pension);
-    Pence(measures::rounded(pension.0 * factor, 100) + lump.0)
+    Pence(scaled(pension.0, factor, 100) + lump.0)
 }
 
 // The employer's final pay charge.
@@ -262,7 +288,7 @@ pub fn charge(f: FinalPay) -> Pence
 
 // The reduction of a pension for new pay.
 pub fn abated(pension: Pence, earned: Pence, previous: Pence, new: Pence) -> Pence
-    requires { ⌜ (pension .0 ≤ 1000000000000) × (new .0 ≤ 1000000000000) ⌝ }
+    requires { ⌜ (pension .0 ≤ highestAmount) × (new .0 ≤ highestAmount) ⌝ }
     ensures { λ r. ⌜ r .0 ≡ abatement (pension .0) (earned .0) (previous .0) (new .0) ⌝ }
 {
     let enhancement = less(pension, earned);
@@ -278,16 +304,16 @@ fn pays_within(f: FinalPay) -> bool
     let pay3 = f.pay3;
     let pay2 = f.pay2;
     let pay1 = f.pay1;
-    if 1000000000 < pay4.0 {
+    if HIGHEST_PAY < pay4.0 {
         return false;
     }
-    if 1000000000 < pay3.0 {
+    if HIGHEST_PAY < pay3.0 {
         return false;
     }
-    if 1000000000 < pay2.0 {
+    if HIGHEST_PAY < pay2.0 {
         return false;
     }
-    if 1000000000 < pay1.0 {
+    if HIGHEST_PAY < pay1.0 {
         return false;
     }
     true
@@ -297,25 +323,25 @@ fn pays_within(f: FinalPay) -> bool
 fn terms_within(f: FinalPay) -> bool
     ensures { λ r. ⌜ r ≡ termsWithin f ⌝ }
 {
-    if 1000 < f.allowance3 {
+    if HIGHEST_ALLOWANCE < f.allowance3 {
         return false;
     }
-    if 1000 < f.allowance2 {
+    if HIGHEST_ALLOWANCE < f.allowance2 {
         return false;
     }
-    if 1000 < f.allowance1 {
+    if HIGHEST_ALLOWANCE < f.allowance1 {
         return false;
     }
     if 7 < f.controls {
         return false;
     }
-    if 16425 < f.days {
+    if MOST_DAYS < f.days {
         return false;
     }
     if f.factor < 1 {
         return false;
     }
-    if 10000 < f.factor {
+    if HIGHEST_CHARGE_FACTOR < f.factor {
         return false;
     }
     true
@@ -338,16 +364,16 @@ pub fn final_pay_refusal(f: FinalPay) -> u64
 pub fn abatement_refusal(pension: Pence, earned: Pence, previous: Pence, new: Pence) -> u64
     ensures { λ r. ⌜ r ≡ abatementRefusal (pension .0) (earned .0) (previous .0) (new .0) ⌝ }
 {
-    if 1000000000000 < pension.0 {
+    if HIGHEST_AMOUNT < pension.0 {
         return 24;
     }
-    if 1000000000000 < earned.0 {
+    if HIGHEST_AMOUNT < earned.0 {
         return 24;
     }
-    if 1000000000000 < previous.0 {
+    if HIGHEST_AMOUNT < previous.0 {
         return 24;
     }
-    if 1000000000000 < new.0 {
+    if HIGHEST_AMOUNT < new.0 {
         return 24;
     }
     if pension.0 < earned.0 {
@@ -359,8 +385,8 @@ pub fn abatement_refusal(pension: Pence, earned: Pence, previous: Pence, new: Pe
 // The charge apart from a case.
 pub fn charge_call(f: FinalPay) -> Answer
     ensures answer { λ r. ⌜ r ≡ chargeAnswer f ⌝ }
-    ensures refusal { λ r. ⌜ refusalOf r ≡ finalPayRefusal f ⌝ }
-    ensures number { λ r. ⌜ amountOf r ≡ numberUnless (finalPayRefusal f) (charge f) ⌝ }
+    ensures refusal { λ r. ⌜ answerRefusal r ≡ finalPayRefusal f ⌝ }
+    ensures number { λ r. ⌜ answerAmount r ≡ numberUnless (finalPayRefusal f) (charge f) ⌝ }
 {
     let refusal = final_pay_refusal(f);
     if refusal != 0 {
@@ -372,8 +398,8 @@ pub fn charge_call(f: FinalPay) -> Answer
 // Abatement apart from a case.
 pub fn abatement_call(pension: Pence, earned: Pence, previous: Pence, new: Pence) -> Answer
     ensures answer { λ r. ⌜ r ≡ abatementAnswer (pension .0) (earned .0) (previous .0) (new .0) ⌝ }
-    ensures refusal { λ r. ⌜ refusalOf r ≡ abatementRefusal (pension .0) (earned .0) (previous .0) (new .0) ⌝ }
-    ensures number { λ r. ⌜ amountOf r ≡ numberUnless (abatementRefusal (pension .0) (earned .0) (previous .0) (new .0)) (abatement (pension .0) (earned .0) (previous .0) (new .0)) ⌝ }
+    ensures refusal { λ r. ⌜ answerRefusal r ≡ abatementRefusal (pension .0) (earned .0) (previous .0) (new .0) ⌝ }
+    ensures number { λ r. ⌜ answerAmount r ≡ numberUnless (abatementRefusal (pension .0) (earned .0) (previous .0) (new .0)) (abatement (pension .0) (earned .0) (previous .0) (new .0)) ⌝ }
 {
     let refusal = abatement_refusal(pension, earned, previous, new);
     if refusal != 0 {

@@ -1,49 +1,36 @@
 -- Completed months and months early as numbers above, at and below nought.
-use Prim.Native.Nat.{ℕ, zero, suc, _+_, _*_, _-_, _≤_, _<_}
+use Prim.Native.Nat.{ℕ, _+_, _*_, _-_, _≤_, _<_}
 use mathlib.Core.Bool.{Bool, true, false, cond}
 use mathlib.Core.Path.{_≡_, refl, sym, _∙_, ap}
 use native.Mathlib.Omega.{arith}
 use lib.Dec.{eqb, ltb}
-use lib.IntN.{ℤ, pos, negsuc, negℤ, _-ℤ_}
-use borrow.Author.Tests.{eqb-true, eqb-false, ltb-true, ltb-false, lt-ltb, le-ltb}
+use lib.IntN.{ℤ, pos, negℤ, _-ℤ_}
+use borrow.Author.Tests.{eqb-true, eqb-false, ltb-false, lt-ltb, le-ltb}
+use Rattle.measures.proofs.Tests.{clash}
+use Rattle.measures.proofs.Integers.{less, more}
 use Rattle.calendar.specs.declared.Date.{Date}
 use Rattle.calendar.specs.Dates.{isBefore, completedMonths, monthsEarly}
 use Rattle.calendar.specs.Ranges.{Accepted}
 
--- a − b where b is no more than a
-pub less : (a b : ℕ) → b ≤ a → pos a -ℤ pos b ≡ pos (a - b)
-less a zero h = ap pos (omega arith)
-less a (suc b) h = rw (le-ltb a (suc b) h)
-
--- a − b where b is no less than a
-pub more : (a b : ℕ) → a ≤ b → pos a -ℤ pos b ≡ negℤ (pos (b - a))
-more zero zero h = refl
-more (suc a) zero h = absurd (let z : ⊥ = omega arith in z)
-more a (suc b) h = by (ltb a (suc b)) refl
-  where
-    by : (t : Bool) → ltb a (suc b) ≡ t → cond t (negsuc (suc b - suc a)) (pos (a - suc b)) ≡ negℤ (pos (suc b - a))
-    by true e = let s : suc b - a ≡ suc (suc b - suc a) = omega (arith, ltb-true) in rw s
-    by false e = let s : suc b - a ≡ 0 = omega (arith, ltb-false) in rw s (ap pos (omega (arith, ltb-false)))
-
--- the months of a date, from the start of year 0
-abbrev pub count : Date → ℕ
-count d = 12 * d .year + d .month
+-- the number of a date's month, counted from the start of year 0
+abbrev pub monthNumber : Date → ℕ
+monthNumber d = 12 * d .year + d .month
 
 -- one fewer where the retirement day number is below the birth day number
-abbrev pub fewer : Date → Date → ℕ
-fewer birth retirement = cond (ltb (retirement .day) (birth .day)) 1 0
+abbrev pub oneFewer : Date → Date → ℕ
+oneFewer birth retirement = cond (ltb (retirement .day) (birth .day)) 1 0
 
 module _ (birth retirement : Date) (h : Accepted birth retirement) where
-  -- retirement is no earlier than birth by the count of months
-  pub ordered : count birth + fewer birth retirement ≤ count retirement
+  -- retirement is no earlier than birth by the number of its month
+  pub ordered : monthNumber birth + oneFewer birth retirement ≤ monthNumber retirement
   unfolding isBefore
   ordered = by _ refl _ refl _ refl (h .order)
     where
       by : (t : Bool) → eqb (retirement .year) (birth .year) ≡ t → (u : Bool) → eqb (retirement .month) (birth .month) ≡ u
           → (s : Bool) → ltb (retirement .day) (birth .day) ≡ s
           → cond t (cond u s (ltb (retirement .month) (birth .month))) (ltb (retirement .year) (birth .year)) ≡ false
-          → count birth + cond s 1 0 ≤ count retirement
-      by true e true f true g o = absurd (let z : _≡_ {A = ℕ} 0 1 = cc in let y : ⊥ = omega arith in y)
+          → monthNumber birth + cond s 1 0 ≤ monthNumber retirement
+      by true e true f true g o = clash (cc)
       by true e true f false g o = omega (arith, eqb-true)
       by true e false f true g o = omega (arith, eqb-true, eqb-false, ltb-false)
       by true e false f false g o = omega (arith, eqb-true, eqb-false, ltb-false)
@@ -51,26 +38,26 @@ module _ (birth retirement : Date) (h : Accepted birth retirement) where
       by false e u f false g o = omega (arith, eqb-true, eqb-false, ltb-false)
 
   -- the months completed, never below nought
-  pub completed : completedMonths birth retirement ≡ pos (count retirement - count birth - fewer birth retirement)
+  pub completed : completedMonths birth retirement ≡ pos (monthNumber retirement - monthNumber birth - oneFewer birth retirement)
   unfolding completedMonths
   completed =
-      ap (λ (z : ℤ). z -ℤ pos (fewer birth retirement)) (less _ _ (omega (arith, ordered))) ∙ less _ _ (omega (arith, ordered))
+      ap (λ (z : ℤ). z -ℤ pos (oneFewer birth retirement)) (less _ _ (omega (arith, ordered))) ∙ less _ _ (omega (arith, ordered))
 
   -- a retirement day number that is below the birth day number
-  pub ordered-short : retirement .day < birth .day → count birth + 1 ≤ count retirement
+  pub ordered-short : retirement .day < birth .day → monthNumber birth + 1 ≤ monthNumber retirement
   ordered-short d = rw (lt-ltb _ _ d) at ordered
 
-  pub completed-short : retirement .day < birth .day → pos (count retirement - count birth - 1) ≡ completedMonths birth retirement
+  pub completed-short : retirement .day < birth .day → pos (monthNumber retirement - monthNumber birth - 1) ≡ completedMonths birth retirement
   completed-short d = sym (rw (lt-ltb _ _ d) at completed)
 
   -- one that is not
-  pub completed-full : birth .day ≤ retirement .day → pos (count retirement - count birth) ≡ completedMonths birth retirement
+  pub completed-full : birth .day ≤ retirement .day → pos (monthNumber retirement - monthNumber birth) ≡ completedMonths birth retirement
   completed-full d = sym ((rw (le-ltb _ _ d) at completed) ∙ ap pos (omega arith))
 
   -- 1 January 1900 to 31 December 2100 is the most
   pub completed-bound : (n : ℕ) → pos n ≡ completedMonths birth retirement → n ≤ 2411
   completed-bound n e =
-      let same : n ≡ count retirement - count birth - fewer birth retirement = cc completed in
+      let same : n ≡ monthNumber retirement - monthNumber birth - oneFewer birth retirement = cc completed in
       omega arith
 
 module _ (birth retirement : Date) (pensionAge n : ℕ) (e : pos n ≡ completedMonths birth retirement) where

@@ -10,10 +10,10 @@ use Rattle.measures.specs.declared.Months.{Months}
 use Rattle.calendar.specs.declared.MonthsEarly.{MonthsEarly}
 use Rattle.calendar.specs.declared.DatesAnswer.{DatesAnswer}
 use Rattle.calendar.specs.Dates.{monthsOf, monthsGiven}
-use Rattle.calendar.specs.Ranges.{AnswerBounded}
-use Rattle.calendar.proofs.CountedMonths.{more}
+use Rattle.calendar.specs.Ranges.{mostLate, AnswerBounded}
+use Rattle.measures.proofs.Integers.{more}
 
-module _ (n : ℕ) (h : n ≤ 1751) where
+module _ (n : ℕ) (h : n ≤ mostLate) where
   -- months fit, and are read as they are
   pub months-fit : SFits w64 (pos n)
   months-fit = omega arith
@@ -21,11 +21,11 @@ module _ (n : ℕ) (h : n ≤ 1751) where
   pub months-read : toZ w64 n ≡ pos n
   months-read = toZ-ofZ months-fit
 
-minus-fits : (n : ℕ) → n ≤ 1751 → SFits w64 (negℤ (pos n))
+minus-fits : (n : ℕ) → n ≤ mostLate → SFits w64 (negℤ (pos n))
 minus-fits zero h = omega arith
 minus-fits (suc n) h = omega arith
 
-module _ (n : ℕ) (h : n ≤ 1751) where
+module _ (n : ℕ) (h : n ≤ mostLate) where
   same : n - 0 ≡ n
   same = omega arith
 
@@ -41,10 +41,10 @@ module _ (n : ℕ) (h : n ≤ 1751) where
 
 -- what is known of an answer by its cases
 module _ {answer : DatesAnswer} {months : MonthsEarly} {m : Months} (a : answer ≡ DatesAnswer.Months months) (h : AnswerBounded answer) where
-  pub early-bound : months ≡ MonthsEarly.Early m → m .0 ≤ 1751
+  pub early-bound : months ≡ MonthsEarly.Early m → m .0 ≤ mostLate
   early-bound e = let b = rw (a, e) at h in omega arith
 
-  pub late-bound : months ≡ MonthsEarly.Late m → m .0 ≤ 1751
+  pub late-bound : months ≡ MonthsEarly.Late m → m .0 ≤ mostLate
   late-bound e = let b = rw (a, e) at h in omega arith
 
   pub early-given : months ≡ MonthsEarly.Early m → pos (m .0) ≡ monthsGiven answer

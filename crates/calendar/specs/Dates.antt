@@ -55,9 +55,9 @@ monthsOf (MonthsEarly.Early months) = pos (months .0)
 monthsOf (MonthsEarly.Late months) = negℤ (pos (months .0))
 
 -- the refusal of an answer of the dates call, 0 for none
-unfoldable pub refusalOf : DatesAnswer → ℕ
-refusalOf (DatesAnswer.Months months) = 0
-refusalOf (DatesAnswer.Refused number) = number
+unfoldable pub refusalGiven : DatesAnswer → ℕ
+refusalGiven (DatesAnswer.Months months) = 0
+refusalGiven (DatesAnswer.Refused number) = number
 
 -- its number: "Each of these calls .. gives 0 for its number when refused."
 unfoldable pub monthsGiven : DatesAnswer → ℤ

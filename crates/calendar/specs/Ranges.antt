@@ -1,5 +1,5 @@
 -- How large the numbers of dates that stand, and of months early, are: what the functions below the dates call ask.
-use Prim.Native.Nat.{_≤_}
+use Prim.Native.Nat.{ℕ, _≤_}
 use mathlib.Core.Bool.{false}
 use mathlib.Core.Path.{_≡_}
 use Rattle.calendar.specs.declared.Date.{Date}
@@ -7,10 +7,14 @@ use Rattle.calendar.specs.declared.MonthsEarly.{MonthsEarly}
 use Rattle.calendar.specs.declared.DatesAnswer.{DatesAnswer}
 use Rattle.calendar.specs.Dates.{isBefore}
 
--- early is above nought and at most the months of pension age 75; late is at most 2,411 months, from January 1900 to December 2100, less those of pension age 55
+-- the most months late: 2,411 months, from January 1900 to December 2100, less those of pension age 55
+abbrev pub mostLate : ℕ
+mostLate = 1751
+
+-- early is above nought and at most the months of pension age 75
 abbrev pub Bounded : MonthsEarly → Type 0
 Bounded (MonthsEarly.Early months) = (1 ≤ months .0) × (months .0 ≤ 900)
-Bounded (MonthsEarly.Late months) = months .0 ≤ 1751
+Bounded (MonthsEarly.Late months) = months .0 ≤ mostLate
 
 -- an answer of the dates call: bounded months, or refusal 5
 abbrev pub AnswerBounded : DatesAnswer → Type 0

@@ -3,7 +3,7 @@ use measures::Months;
 ghost use mathlib.Core.Path.{_≡_};
 ghost use Prim.Native.Nat.{_≤_};
 ghost use lib.IntN.{pos};
-ghost use Rattle.calendar.specs.Dates.{isLeap, monthLength, dateStands, isBefore, datesRefusal, completedMonths, monthsEarly, monthsOf, refusalOf, monthsGiven, datesNumber};
+ghost use Rattle.calendar.specs.Dates.{isLeap, monthLength, dateStands, isBefore, datesRefusal, completedMonths, monthsEarly, monthsOf, refusalGiven, monthsGiven, datesNumber};
 ghost use Rattle.calendar.specs.Ranges.{Bounded, AnswerBounded, Accepted};
 
 // A day of the calendar.
@@ -140,7 +140,7 @@ pub fn months_early(birth: Date, retirement: Date, pension_age: u64) -> MonthsEa
 
 // The dates call: months early of any numbers whatever, or refusal 5.
 pub fn dates_call(birth: Date, retirement: Date, pension_age: u64) -> DatesAnswer
-    ensures refusal { λ r. ⌜ refusalOf r ≡ datesRefusal birth retirement «pension_age» ⌝ }
+    ensures refusal { λ r. ⌜ refusalGiven r ≡ datesRefusal birth retirement «pension_age» ⌝ }
     ensures months { λ r. ⌜ monthsGiven r ≡ datesNumber birth retirement «pension_age» ⌝ }
     ensures bounds { λ r. ⌜ AnswerBounded r ⌝ }
 {
@@ -153,7 +153,7 @@ pub fn dates_call(birth: Date, retirement: Date, pension_age: u64) -> DatesAnswe
 
 // The refusal of an answer of the dates call, 0 for none.
 pub fn refusal_number(answer: DatesAnswer) -> u64
-    ensures { λ r. ⌜ r ≡ refusalOf answer ⌝ }
+    ensures { λ r. ⌜ r ≡ refusalGiven answer ⌝ }
 {
     match answer {
         DatesAnswer::Months(_) => 0,

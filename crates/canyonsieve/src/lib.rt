@@ -13,7 +13,7 @@ use rules::Outcome;
 use texts::work_text;
 ghost use mathlib.Core.Path.{_≡_};
 ghost use lib.ListN.{length};
-ghost use Rattle.measures.specs.Answers.{refusalOf, amountOf, numberUnless};
+ghost use Rattle.measures.specs.Answers.{answerRefusal, answerAmount, numberUnless};
 ghost use Rattle.calendar.specs.Dates.{dateOf, datesRefusal, datesNumber};
 ghost use Rattle.posts.specs.Posts.{aggregatePay};
 ghost use Rattle.posts.specs.Call.{postsIn, callRefusal, placesAfter};
@@ -51,7 +51,7 @@ pub struct CaseFigures {
 
 // The refusal and the number of an answer.
 fn figure_of(answer: Answer) -> Figure
-    ensures { λ r. ⌜ (r .refusal ≡ refusalOf answer) × (r .number ≡ amountOf answer) ⌝ }
+    ensures { λ r. ⌜ (r .refusal ≡ answerRefusal answer) × (r .number ≡ answerAmount answer) ⌝ }
 {
     match answer {
         Answer::Amount(amount) => Figure {

@@ -2,76 +2,55 @@
 use Prim.Native.Nat.{ℕ}
 use mathlib.Core.Path.{_≡_, refl}
 use mathlib.Core.Bool.{Bool, true, false, cond}
-use mathlib.Core.Option.{Option, none, some}
 use lib.Dec.{eqb}
-use Rattle.measures.specs.Rounding.{rounded}
-use Rattle.measures.specs.Refusals.{unless, first}
-use Rattle.benefits.specs.declared.FinalPay.{FinalPay}
-use Rattle.benefits.specs.Steps.{finalPay, finalYear, sectionPension, lumpDebit, controlled, raised, allowedFrom, allowed3, allowed2, allowed1, allowedIn, excess, excessPension, chargeFrom, charge}
-use Rattle.frames.specs.declared.Factor.{Factor}
+use Rattle.measures.specs.Refusals.{unless, firstRefusal}
+use Rattle.benefits.specs.Steps.{lumpDebit, charge}
 use Rattle.rules.specs.declared.Amounts.{Amounts}
 use Rattle.rules.specs.declared.Outcome.{Outcome}
-use Rattle.rules.specs.Rules.{Frames, Kept, nothing, begun, given, hasSection}
-use Rattle.rules.specs.Working.{ownParts, ownPay, pension1995, pensionFactor, lumpFactor, gross2015, gross1995, grossLumpSum, debit2015, debit1995, chargeOf, payThere, factorsThere, debitsFit, closingOf, amountsOf, workedUnless, answerOf}
-use Rattle.tallies.specs.Closing.{wantedThere, openRefusal, pension1995Of, grossOf, debitsOf, netOf}
+use Rattle.rules.specs.Rules.{Frames, Kept, nothing, begun, hasSection}
+use Rattle.rules.specs.Working.{ownAggregates, ownPay, gross2015, gross1995, grossLumpSum, debit2015, debit1995, chargeOf, payThere, factorsThere, debitsFit, closingOf, amountsOf, workedUnless, answerOf}
+use Rattle.years.specs.Years.{pensionNow}
+use Rattle.section.specs.Section.{payHeld}
+use Rattle.factors.specs.Factors.{factorsHeld}
+use Rattle.debits.specs.Debits.{debitsOf, netOf}
+use Rattle.years.proofs.Years.{pension-now}
+use Rattle.section.proofs.Section as section
+use Rattle.factors.proofs.Factors as factors
+use Rattle.factors.proofs.Factors.{reduced-only}
+use Rattle.debits.proofs.Debits as debits
 use Rattle.cases.specs.declared.Case.{Case}
-use Rattle.cases.specs.State.{start, refusalAtEnd, pensionNow, outcomeOf}
+use Rattle.cases.specs.State.{start, openRefusal, grossOf, outcomeOf}
 use Rattle.cases.proofs.Stages.{stage-begun}
-use Rattle.cases.proofs.Represents.{Represents, Holds, foundOf, payOf, datedOf, debitsHeld, pension-now}
-
-found-is : (o : Option Factor) → foundOf o .found ≡ given o
-found-is none = refl
-found-is (some f) = refl
-
-pension-is : (o : Option Factor) → foundOf o .pension ≡ pensionFactor o
-pension-is none = refl
-pension-is (some f) = refl
-
-lump-is : (o : Option Factor) → foundOf o .lump ≡ lumpFactor o
-lump-is none = refl
-lump-is (some f) = refl
-
--- without an 04 the 1995 pension and the charge are those of noughts
-section-pension : (o : Option FinalPay) → sectionPension (finalPay (payOf o)) (payOf o .days) ≡ pension1995 o (ownPay o)
-unfolding sectionPension finalPay pension1995 ownPay rounded
-section-pension none = refl
-section-pension (some f) = refl
-
-charge-is : (o : Option FinalPay) → charge (payOf o) ≡ chargeOf o
-unfolding chargeOf charge chargeFrom excessPension sectionPension excess allowedIn allowedFrom allowed3 allowed2 allowed1 raised controlled finalYear finalPay rounded
-charge-is none = refl
-charge-is (some f) = refl
+use Rattle.cases.proofs.Represents.{Represents, Holds}
 
 module _ (c : Case) (k : Frames) (h : Holds c k) where
-  section-is : eqb (c .member .section) 1 ≡ hasSection k
-  unfolding hasSection
-  section-is = rw (h .member) refl
+  pay-is : payHeld (c .member .section) (c .section) ≡ payThere k
+  unfolding payThere hasSection
+  pay-is = rw (h .member) (section.held-is (c .section) (k .finalPay) (h .section) (k .member .section))
 
-  wanted-is : wantedThere (c .member .section) (c .dated) ≡ factorsThere k
-  unfolding wantedThere factorsThere datedOf
-  wanted-is = rw (section-is, h .dated) (rw (found-is, found-is) refl)
+  factors-are : factorsHeld (c .member .section) (c .factors) ≡ factorsThere k
+  unfolding factorsThere hasSection
+  factors-are = rw (h .member) (factors.held-is (c .factors) (k .member) (k .factors) (h .factors) (k .member .section))
 
-  refusal-is : refusalAtEnd c ≡ first (unless (payThere k) 12) (unless (factorsThere k) 13)
-  unfolding openRefusal payThere
-  refusal-is = rw (wanted-is, section-is, h .stage, h .given, stage-begun k) refl
+  refusal-is : openRefusal c ≡ firstRefusal (unless (payThere k) 12) (unless (factorsThere k) 13)
+  unfolding openRefusal
+  refusal-is = rw (pay-is, factors-are, h .stage, stage-begun k) refl
 
-  pension1995-is : pension1995Of (c .pay) ≡ pension1995 (k .finalPay) (ownPay (k .finalPay))
-  unfolding pension1995Of
-  pension1995-is = rw (h .pay) (section-pension (k .finalPay))
+  gross-is : grossOf c ≡ record { pension2015 = record { 0 = gross2015 k (ownAggregates (k .years)) }; pension1995 = record { 0 = gross1995 k (ownPay (k .finalPay)) }; «lump_sum» = record { 0 = grossLumpSum k (ownPay (k .finalPay)) } }
+  unfolding grossOf gross2015 gross1995 grossLumpSum hasSection
+  gross-is =
+      rw (h .member, section.earned-is (c .section) (k .finalPay) (h .section) (k .member .section) (pensionNow (c .years)), pension-now (c .years) (k .years) (h .years))
+      (rw (factors.reduced-is (c .factors) (k .member) (k .factors) (h .factors)) (rw (reduced-only, reduced-only) refl))
 
-  gross-is : grossOf (c .member .section) (c .dated) (c .pay) (pensionNow c) ≡ record { pension2015 = record { 0 = gross2015 k (ownParts (k .years)) }; pension1995 = record { 0 = gross1995 k (ownPay (k .finalPay)) }; lump = record { 0 = grossLumpSum k (ownPay (k .finalPay)) } }
-  unfolding grossOf gross2015 gross1995 grossLumpSum datedOf
-  gross-is = rw (pension-now c k h, pension1995-is, section-is, h .dated) (rw (pension-is, pension-is, lump-is) refl)
+  debits-are : debitsOf (c .member .section) (c .debits) ≡ record { pension2015 = record { 0 = debit2015 k }; pension1995 = record { 0 = debit1995 k }; «lump_sum» = record { 0 = lumpDebit (debit1995 k) } }
+  unfolding debit2015 debit1995 hasSection
+  debits-are = rw (h .member) (debits.debits-are (c .debits) (k .debits) (h .debits) (k .member .section))
 
-  debits-are : debitsOf (c .member .section) (c .debits) ≡ record { pension2015 = record { 0 = debit2015 k }; pension1995 = record { 0 = debit1995 k }; lump = record { 0 = lumpDebit (debit1995 k) } }
-  unfolding debitsOf debit2015 debit1995 debitsHeld
-  debits-are = rw (section-is, h .debits) refl
-
-  charge-held : charge (c .pay) ≡ chargeOf (k .finalPay)
-  charge-held = rw (h .pay) (charge-is (k .finalPay))
+  charge-is : charge (c .section .pay) ≡ chargeOf (k .finalPay)
+  charge-is = section.charge-held (c .section) (k .finalPay) (h .section)
 
 -- the refusals at the end in one row
-in-row : (a b d : ℕ) (amounts : Amounts) → cond (eqb (first a b) 0) (workedUnless d amounts) (Outcome.Refused (record { number = first a b; line = 0 })) ≡ workedUnless (first a (first b d)) amounts
+in-row : (a b d : ℕ) (amounts : Amounts) → cond (eqb (firstRefusal a b) 0) (workedUnless d amounts) (Outcome.Refused (record { number = firstRefusal a b; line = 0 })) ≡ workedUnless (firstRefusal a (firstRefusal b d)) amounts
 unfolding workedUnless
 in-row a b d amounts = by (eqb a 0) refl (eqb b 0) refl
   where
@@ -88,5 +67,5 @@ pub closing-agrees : (c : Case) (k : Kept) → Represents c k → outcomeOf c �
 unfolding outcomeOf answerOf closingOf netOf debitsFit amountsOf openRefusal start
 closing-agrees c nothing h = rw h refl
 closing-agrees c (begun k) h =
-    rw (refusal-is c k (h .0), gross-is c k (h .0), debits-are c k (h .0), charge-held c k (h .0))
+    rw (refusal-is c k (h .0), gross-is c k (h .0), debits-are c k (h .0), charge-is c k (h .0))
     (in-row (unless (payThere k) 12) (unless (factorsThere k) 13) (unless (debitsFit k) 14) (amountsOf k))

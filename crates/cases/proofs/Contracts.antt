@@ -3,9 +3,11 @@ use Prim.Native.Nat.{ℕ}
 use mathlib.Core.Bool.{Bool, true, false, cond}
 use mathlib.Core.Path.{_≡_, refl, sym, _∙_, ap, subst}
 use mathlib.Core.List.{List, [], _∷_, _++_}
-use native.Mathlib.Omega.{arith}
 use lib.Dec.{eqb}
 use Rattle.measures.specs.Tries.{tried, after}
+use Rattle.measures.specs.Lists.{All}
+use Rattle.measures.proofs.Tests.{clash}
+use Rattle.measures.proofs.Lists.{all-map}
 use Rattle.measures.proofs.Trying.{tried-refused}
 use Rattle.posts.proofs.Standing.{stand-worked}
 use Rattle.frames.specs.declared.Frame.{Frame}
@@ -15,26 +17,25 @@ use Rattle.rules.specs.declared.Outcome.{Outcome}
 use Rattle.rules.specs.Rules.{WorkedYear, Kept, nothing, begun, decodedAll, kept}
 use Rattle.rules.specs.Working.{answerOf}
 use Rattle.rules.specs.Rivals.{Largest}
-use Rattle.rules.proofs.Largest.{AllWorked, largest-kept}
+use Rattle.rules.proofs.Largest.{WorkedPosts, largest-kept}
+use Rattle.years.proofs.Years.{GoodYear}
 use Rattle.cases.specs.declared.Case.{Case}
 use Rattle.cases.specs.declared.Taken.{Taken}
 use Rattle.cases.specs.State.{start, takenFrame, refusalOfCase, nextOfCase, takenDecoded, afterAll, outcomeOf, Bounds}
 use Rattle.cases.specs.Running.{IsCase, TakenFrom, ClosedAfter}
-use Rattle.cases.proofs.Represents.{Represents, GoodYear, All}
+use Rattle.cases.proofs.Represents.{Represents, represented-bounds}
 use Rattle.cases.proofs.Bridge.{refusal-agrees, represents, after-one-more}
 use Rattle.cases.proofs.Answer.{closing-agrees}
-use Rattle.cases.proofs.Widths.{represented-bounds}
 
 -- ---- demand 3 for the running case
 
-all-worked : (ys : List WorkedYear) → All GoodYear ys → AllWorked ys
-all-worked [] g = tt
-all-worked (y ∷ ys) g = (stand-worked (y .posts) (g .0 .posts), all-worked ys (g .1))
+worked : (ys : List WorkedYear) → All GoodYear ys → All WorkedPosts ys
+worked ys g = all-map GoodYear WorkedPosts (λ y good. stand-worked (y .posts) (good .posts)) ys g
 
 largest-of : (k : Kept) (c : Case) (a : Amounts) → Represents c k → answerOf k ≡ Outcome.Worked a → Largest k a
 unfolding answerOf
-largest-of nothing c a h e = absurd (let z : _≡_ {A = ℕ} 0 1 = cc in let y : ⊥ = omega arith in y)
-largest-of (begun k) c a h e = largest-kept k a (all-worked (k .years) (h .1 .years)) e
+largest-of nothing c a h e = clash (cc)
+largest-of (begun k) c a h e = largest-kept k a (worked (k .years) (h .1 .years .each)) e
 
 -- Over every list of frames, refused ones included, of any length: where the closing is not refused, the amounts given are the largest of the frames kept.
 pub largest-decoded : (ds : List Decoded) (a : Amounts) → outcomeOf (afterAll ds) ≡ Outcome.Worked a → Largest (kept ds) a

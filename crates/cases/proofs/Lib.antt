@@ -2,7 +2,6 @@ pub mod Stages
 pub mod Represents
 pub mod Bridge
 pub mod Answer
-pub mod Widths
 pub mod Contracts
 pub mod TakingLaws
 pub mod Whole

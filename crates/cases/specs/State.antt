@@ -1,106 +1,113 @@
--- The running case as the code holds it: what each frame makes of it, and what closing reads off it.
-use Prim.Native.Nat.{ℕ, _+_, _^_, _≤_}
-use mathlib.Core.Bool.{true, false, cond}
+-- The running case as the code holds it: what each frame makes of it, and what closing reads off it. The parts that it hands frames to are those of `years`, `section`, `factors` and `debits`.
+use Prim.Native.Nat.{ℕ}
+use mathlib.Core.Bool.{Bool, _&&_, cond}
 use mathlib.Core.List.{List}
-use lib.Dec.{eqb}
+use lib.Dec.{leb, eqb}
+use Rattle.measures.specs.Refusals.{within, unless, firstRefusal}
 use Rattle.measures.specs.Tries.{tried, after}
-use Rattle.posts.specs.declared.Post.{Post}
-use Rattle.posts.specs.Posts.{aggregatePay}
-use Rattle.posts.specs.Year.{noPosts, postsOf, Held, joinedBy}
-use Rattle.benefits.specs.declared.FinalPay.{FinalPay}
+use Rattle.calendar.specs.declared.Date.{Date}
 use Rattle.benefits.specs.Steps.{charge}
 use Rattle.benefits.specs.Bounds.{FinalPayBounds}
 use Rattle.frames.specs.declared.Member.{Member}
-use Rattle.frames.specs.declared.Year.{Year}
-use Rattle.frames.specs.declared.Factor.{Factor}
-use Rattle.frames.specs.declared.Debit.{Debit}
 use Rattle.frames.specs.declared.Frame.{Frame}
 use Rattle.frames.specs.declared.Decoded.{Decoded}
+use Rattle.frames.specs.Limits.{memberRefusal}
 use Rattle.rules.specs.declared.Outcome.{Outcome}
-use Rattle.tallies.specs.Taking.{noMember, noService, noPay, noPlace, noDated, noDebits, memberOrder, yearOrder, postOrder, payOrder, factorOrder, debitOrder, datedFor, pensionWith, datedBy, debitBy}
-use Rattle.tallies.specs.Closing.{openRefusal, grossOf, debitsOf, netOf}
-use Rattle.tallies.specs.Bounds.{ServiceBounds, DatedBounds}
+use Rattle.rules.specs.declared.SchemeAmounts.{SchemeAmounts}
+use Rattle.years.specs.declared.YearsState.{YearsState}
+use Rattle.years.specs.declared.YearsTaken.{YearsTaken}
+use Rattle.section.specs.declared.SectionState.{SectionState}
+use Rattle.factors.specs.declared.FactorsState.{FactorsState}
+use Rattle.debits.specs.declared.DebitsState.{DebitsState}
+use Rattle.years.specs.Years.{noYears, yearFields, postFields, pensionNow, withYear, withPost, YearsBounds}
+use Rattle.section.specs.Section.{noSection, payFields, withPay, payHeld, earnedOf}
+use Rattle.factors.specs.Factors.{noFactors, factorsFor, factorFields, withFactor, factorsHeld, reducedBy, DatedBounds}
+use Rattle.debits.specs.Debits.{noDebits, debitFields, withDebit, debitsOf, netOf, DebitsBounds}
 use Rattle.cases.specs.declared.Case.{Case}
 use Rattle.cases.specs.declared.Taken.{Taken}
 
 -- ---- the case with no frame
 
+-- a date with noughts
+abbrev pub noDate : Date
+noDate = record { year = 0; month = 0; day = 0 }
+
+-- a member with noughts
+abbrev pub noMember : Member
+noMember = record { birth = noDate; retirement = noDate; section = 0; «pension_age» = 0 }
+
 -- noughts throughout
 unfoldable pub start : Case
-start =
-    record {
-      stage = 0;
-      member = noMember;
-      service = noService;
-      posts = noPosts;
-      given = false;
-      pay = noPay;
-      previous = noPlace;
-      dated = noDated;
-      debits = noDebits;
-    }
+start = record { stage = 0; member = noMember; years = noYears; section = noSection; factors = noFactors; debits = noDebits }
 
 -- ---- the refusal of a frame
 
--- by the kind of frame, from what the case holds
+-- whether a frame may follow. The stage is 0 without a frame, 1 after the 01, 2 after an 02 or 03, 3 after the 04, 4 after an 05, 5 after an 06.
+unfoldable pub inOrderAt : ℕ → ℕ → Frame → Bool
+inOrderAt stage section (Frame.Member m) = eqb stage 0
+inOrderAt stage section (Frame.Year y) = within 1 2 stage
+inOrderAt stage section (Frame.Post x) = eqb stage 2
+inOrderAt stage section (Frame.FinalPay f) = within 1 2 stage && eqb section 1
+inOrderAt stage section (Frame.Factor f) = within 1 4 stage
+inOrderAt stage section (Frame.Debit d) = leb 1 stage
+
+-- the refusal of its fields, by the part that takes it
+unfoldable pub caseFields : Case → Frame → ℕ
+caseFields c (Frame.Member m) = memberRefusal m
+caseFields c (Frame.Year y) = yearFields (c .years) y
+caseFields c (Frame.Post x) = postFields (c .years) x
+caseFields c (Frame.FinalPay f) = payFields (c .section) f
+caseFields c (Frame.Factor f) = factorFields (c .member .section) (c .factors) f
+caseFields c (Frame.Debit d) = debitFields (c .member .section) (c .debits) d
+
+-- 4, then its fields
 unfoldable pub caseRefusal : Case → Frame → ℕ
-caseRefusal c (Frame.Member m) = memberOrder (c .stage) m
-caseRefusal c (Frame.Year y) = yearOrder (c .stage) (c .service) y
-caseRefusal c (Frame.Post x) = postOrder (c .stage) (postsOf (c .posts)) x
-caseRefusal c (Frame.FinalPay f) = payOrder (c .stage) (c .member .section) f
-caseRefusal c (Frame.Factor f) = factorOrder (c .stage) (c .member .section) (c .previous) f
-caseRefusal c (Frame.Debit d) = debitOrder (c .stage) (c .member .section) (c .debits) d
+caseRefusal c f = firstRefusal (unless (inOrderAt (c .stage) (c .member .section) f) 4) (caseFields c f)
 
 -- ---- the case advanced by a frame
 
--- by an 01: the member, and the months early of each scheme
-unfoldable pub withMember : Case → Member → Case
-withMember c m =
-    record { stage = 1; member = m; service = c .service; posts = c .posts; given = c .given; pay = c .pay; previous = c .previous; dated = datedFor m; debits = c .debits }
+-- the case at a stage with other years
+abbrev pub atYears : Case → ℕ → YearsState → Case
+atYears c stage s = record { stage = stage; member = c .member; years = s; section = c .section; factors = c .factors; debits = c .debits }
 
--- the pension with the year that is open
-unfoldable pub pensionNow : Case → ℕ
-pensionNow c = pensionWith (c .service) (aggregatePay (postsOf (c .posts)))
+-- with another section
+abbrev pub atSection : Case → ℕ → SectionState → Case
+atSection c stage s = record { stage = stage; member = c .member; years = c .years; section = s; factors = c .factors; debits = c .debits }
 
--- by an 02: the year that was open is counted, and a year without posts is open
-unfoldable pub withYear : Case → Year → Case
-withYear c y =
-    record { stage = 2; member = c .member; service = record { years = c .service .years + 1; april = y .april; revaluation = y .revaluation; pension = record { 0 = pensionNow c } }; posts = noPosts; given = c .given; pay = c .pay; previous = c .previous; dated = c .dated; debits = c .debits }
+-- with other factors
+abbrev pub atFactors : Case → ℕ → FactorsState → Case
+atFactors c stage s = record { stage = stage; member = c .member; years = c .years; section = c .section; factors = s; debits = c .debits }
 
--- by an 03: the post joins the year that is open
-unfoldable pub withPost : Case → Post → Case
-withPost c x =
-    record { stage = 2; member = c .member; service = c .service; posts = joinedBy (c .posts) x; given = c .given; pay = c .pay; previous = c .previous; dated = c .dated; debits = c .debits }
+-- with other debits
+abbrev pub atDebits : Case → ℕ → DebitsState → Case
+atDebits c stage s = record { stage = stage; member = c .member; years = c .years; section = c .section; factors = c .factors; debits = s }
 
--- by an 04
-unfoldable pub withPay : Case → FinalPay → Case
-withPay c f =
-    record { stage = 3; member = c .member; service = c .service; posts = c .posts; given = true; pay = f; previous = c .previous; dated = c .dated; debits = c .debits }
-
--- by an 05: it is the previous one, and is found where it is for exactly the months early
-unfoldable pub withFactor : Case → Factor → Case
-withFactor c f =
-    record { stage = 4; member = c .member; service = c .service; posts = c .posts; given = c .given; pay = c .pay; previous = record { scheme = f .scheme; months = f .months }; dated = datedBy (c .dated) f; debits = c .debits }
-
--- by an 06: the debit of its scheme
-unfoldable pub withDebit : Case → Debit → Case
-withDebit c d =
-    record { stage = 5; member = c .member; service = c .service; posts = c .posts; given = c .given; pay = c .pay; previous = c .previous; dated = c .dated; debits = record { scheme = d .scheme; pension2015 = debitBy (c .debits .pension2015) 0 d; pension1995 = debitBy (c .debits .pension1995) 1 d } }
+-- with a member, and the months early of each scheme
+abbrev pub atMember : Case → Member → Case
+atMember c m = record { stage = 1; member = m; years = c .years; section = c .section; factors = factorsFor m; debits = c .debits }
 
 -- by a frame of any of the six kinds
 unfoldable pub caseNext : Case → Frame → Case
-caseNext c (Frame.Member m) = withMember c m
-caseNext c (Frame.Year y) = withYear c y
-caseNext c (Frame.Post x) = withPost c x
-caseNext c (Frame.FinalPay f) = withPay c f
-caseNext c (Frame.Factor f) = withFactor c f
-caseNext c (Frame.Debit d) = withDebit c d
+caseNext c (Frame.Member m) = atMember c m
+caseNext c (Frame.Year y) = atYears c 2 (withYear (c .years) y)
+caseNext c (Frame.Post x) = atYears c 2 (withPost (c .years) x)
+caseNext c (Frame.FinalPay f) = atSection c 3 (withPay (c .section) f)
+caseNext c (Frame.Factor f) = atFactors c 4 (withFactor (c .factors) f)
+caseNext c (Frame.Debit d) = atDebits c 5 (withDebit (c .debits) d)
 
 -- ---- "taking a frame hands back the case advanced by it; a refused frame hands back the case unchanged"
 
 -- by the refusal: the next case, or the case as it was
 abbrev pub handedBack : ℕ → Case → Case → Taken
 handedBack refusal c next = record { case = cond (eqb refusal 0) next c; refusal = refusal }
+
+-- the case with the years that a frame made, and their stage unless it was refused
+unfoldable pub withYearsTaken : Case → YearsTaken → Taken
+withYearsTaken c t = record { case = atYears c (cond (eqb (t .refusal) 0) 2 (c .stage)) (t .years); refusal = t .refusal }
+
+-- a frame that stands in its order, taken
+unfoldable pub takenInOrder : Case → Frame → Taken
+takenInOrder c f = handedBack (caseFields c f) c (caseNext c f)
 
 -- a frame taken
 unfoldable pub takenFrame : Case → Frame → Taken
@@ -127,23 +134,27 @@ afterAll ds = after refusalOfCase nextOfCase start ds
 -- ---- closing
 
 -- 4, 12 and 13
-abbrev pub refusalAtEnd : Case → ℕ
-refusalAtEnd c = openRefusal (c .stage) (c .member .section) (c .given) (c .dated)
+unfoldable pub openRefusal : Case → ℕ
+openRefusal c =
+    firstRefusal (unless (leb 1 (c .stage)) 4)
+    (firstRefusal (unless (payHeld (c .member .section) (c .section)) 12) (unless (factorsHeld (c .member .section) (c .factors)) 13))
+
+-- the amounts before the debits
+unfoldable pub grossOf : Case → SchemeAmounts
+grossOf c = reducedBy (c .factors) (earnedOf (c .section) (c .member .section) (pensionNow (c .years)))
 
 -- the refusal, or the nets
 unfoldable pub outcomeOf : Case → Outcome
 outcomeOf c =
-    cond (eqb (refusalAtEnd c) 0)
-    (netOf (grossOf (c .member .section) (c .dated) (c .pay) (pensionNow c)) (debitsOf (c .member .section) (c .debits)) (charge (c .pay)))
-    (Outcome.Refused (record { number = refusalAtEnd c; line = 0 }))
+    cond (eqb (openRefusal c) 0)
+    (netOf (grossOf c) (debitsOf (c .member .section) (c .debits)) (charge (c .section .pay)))
+    (Outcome.Refused (record { number = openRefusal c; line = 0 }))
 
 -- ---- how large the numbers of a case are: what the methods below the public ones ask
 
--- the bounds of all that a case holds
+-- of each part
 pub record Bounds (c : Case) : Type 0 where
-  pub posts : Held (c .posts)
-  pub service : ServiceBounds (c .service)
-  pub now : pensionNow c ≤ 2 ^ 50
-  pub pay : FinalPayBounds (c .pay)
-  pub dated : DatedBounds (c .dated)
-  pub debit1995 : c .debits .pension1995 .0 ≤ 100000000000
+  pub years : YearsBounds (c .years)
+  pub pay : FinalPayBounds (c .section .pay)
+  pub dated : DatedBounds (c .factors .dated)
+  pub debits : DebitsBounds (c .debits)

@@ -1,26 +1,23 @@
 // The running case: document 01's rules over the frames of one member.
-use benefits::FinalPay;
+use debits::DebitsState;
+use factors::FactorsState;
 use frames::Member;
-use posts::YearPosts;
-use tallies::Dated;
-use tallies::Debits;
-use tallies::Place;
-use tallies::Service;
+use section::SectionState;
+use years::YearsState;
 
 mod closing;
+mod order;
 mod taking;
 
-// A running case. A case of any length is of one size. What depends on the date of retirement stands apart, in `dated`.
+// A running case: the member, the stage that its frames have come to, and what it holds of the frames of each section of document 01.
+// A case of any length is of one size.
 pub struct Case {
     stage: u64,
     member: Member,
-    service: Service,
-    posts: YearPosts,
-    given: bool,
-    pay: FinalPay,
-    previous: Place,
-    dated: Dated,
-    debits: Debits,
+    years: YearsState,
+    section: SectionState,
+    factors: FactorsState,
+    debits: DebitsState,
 }
 
 // The case after a frame, and the refusal of the frame, 0 for none.

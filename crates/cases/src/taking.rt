@@ -1,7 +1,17 @@
 // Taking a frame: refused, it leaves the case as it was; otherwise it advances it.
 use super::Case;
 use super::Taken;
+use super::order::DEBITS;
+use super::order::FACTORS;
+use super::order::MEMBER;
+use super::order::PAY;
+use super::order::YEARS;
+use super::order::is_in_order;
+use super::order::stage_after;
 use benefits::FinalPay;
+use calendar::Date;
+use debits::DebitsState;
+use factors::FactorsState;
 use frames::Debit;
 use frames::Decoded;
 use frames::Factor;
@@ -9,229 +19,170 @@ use frames::Frame;
 use frames::Member;
 use frames::Year;
 use frames::decode;
+use frames::member_refusal;
 use frames::refusal_in;
-use measures::Months;
-use measures::Pence;
 use posts::Post;
-use posts::YearPosts;
-use tallies::DEBITS;
-use tallies::Debits;
-use tallies::FACTORS;
-use tallies::MEMBER;
-use tallies::PAY;
-use tallies::Place;
-use tallies::Service;
-use tallies::YEARS;
-use tallies::dated_by;
-use tallies::dated_for;
-use tallies::debit_by;
-use tallies::no_dated;
-use tallies::no_member;
-use tallies::no_pay;
-use tallies::pension_with;
-use tallies::refusal_of_debit;
-use tallies::refusal_of_factor;
-use tallies::refusal_of_member;
-use tallies::refusal_of_pay;
-use tallies::refusal_of_post;
-use tallies::refusal_of_year;
+use section::SectionState;
+use years::YearsState;
+use years::YearsTaken;
 ghost use mathlib.Core.Path.{_≡_};
 ghost use mathlib.Core.List.{[]};
-ghost use Rattle.posts.specs.Year.{postsOf};
 ghost use Rattle.frames.specs.Frames.{decoded};
 ghost use Rattle.frames.specs.declared.Decoded.{Decoded};
-ghost use Rattle.tallies.specs.Taking.{memberOrder, yearOrder, postOrder, payOrder, factorOrder, debitOrder};
-ghost use Rattle.cases.specs.State.{Bounds, takenFrame, handedBack, withMember, withYear, withPost, withPay, withFactor, withDebit, afterAll};
+ghost use Rattle.frames.specs.declared.Frame.{Frame};
+ghost use Rattle.cases.specs.State.{noMember, Bounds, withYearsTaken, takenInOrder, takenFrame, afterAll};
 ghost use Rattle.cases.specs.Running.{IsCase, TakenFrom};
+
+// A member with noughts.
+fn no_member() -> Member
+    ensures { λ r. ⌜ r ≡ noMember ⌝ }
+{
+    let none = Date {
+        year: 0,
+        month: 0,
+        day: 0,
+    };
+    Member {
+        birth: none,
+        retirement: none,
+        section: 0,
+        pension_age: 0,
+    }
+}
 
 impl Case {
     // A case with no frame.
     pub fn start() -> Case
         ensures { λ r. ⌜ IsCase r × (r ≡ afterAll []) ⌝ }
     {
-        let pence = Pence(0);
         let member = no_member();
-        let service = Service {
-            years: 0,
-            april: 0,
-            revaluation: 0,
-            pension: pence,
-        };
-        let posts = YearPosts::none();
-        let pay = no_pay();
-        let previous = Place {
-            scheme: 0,
-            months: Months(0),
-        };
-        let dated = no_dated();
-        let debits = Debits {
-            scheme: 0,
-            pension2015: pence,
-            pension1995: pence,
-        };
+        let years = YearsState::none();
+        let section = SectionState::none();
+        let factors = FactorsState::none();
+        let debits = DebitsState::none();
         Case {
             stage: 0,
             member,
-            service,
-            posts,
-            given: false,
-            pay,
-            previous,
-            dated,
+            years,
+            section,
+            factors,
             debits,
         }
     }
 
-    // An 01 taken.
+    // An 01 taken in its order: 5, or the member with the months early of each scheme.
     fn take_member(self, m: Member) -> Taken
-        ensures { λ r. ⌜ r ≡ handedBack (memberOrder (self .stage) m) self (withMember self m) ⌝ }
+        ensures { λ r. ⌜ r ≡ takenInOrder self (Frame.Member m) ⌝ }
     {
-        let refusal = refusal_of_member(self.stage, m);
+        let refusal = member_refusal(m);
         if refusal != 0 {
             return Taken {
                 case: self,
                 refusal,
             };
         }
-        let mut next = self;
-        next.stage = MEMBER;
-        next.member = m;
-        next.dated = dated_for(m);
+        let mut case = self;
+        case.stage = MEMBER;
+        case.member = m;
+        case.factors = FactorsState::of_member(m);
+        Taken { case, refusal: 0 }
+    }
+
+    // The case with the years that a frame made, at their stage. The years are most of a case, so that the rest is put beside them.
+    fn with_years(self, taken: YearsTaken) -> Taken
+        ensures { λ r. ⌜ r ≡ withYearsTaken self taken ⌝ }
+    {
+        let member = self.member;
+        let years = taken.years;
+        let section = self.section;
+        let factors = self.factors;
+        let debits = self.debits;
+        let case = Case {
+            stage: stage_after(self.stage, taken.refusal, YEARS),
+            member,
+            years,
+            section,
+            factors,
+            debits,
+        };
         Taken {
-            case: next,
-            refusal: 0,
+            case,
+            refusal: taken.refusal,
         }
     }
 
-    // An 02 taken.
+    // An 02.
     fn take_year(self, y: Year) -> Taken
         requires { ⌜ Bounds self ⌝ }
-        ensures { λ r. ⌜ r ≡ handedBack (yearOrder (self .stage) (self .service) y) self (withYear self y) ⌝ }
+        ensures { λ r. ⌜ r ≡ takenInOrder self (Frame.Year y) ⌝ }
     {
-        let refusal = refusal_of_year(self.stage, self.service, y);
-        if refusal != 0 {
-            return Taken {
-                case: self,
-                refusal,
-            };
-        }
-        let pension = pension_with(self.service, self.posts);
-        let service = Service {
-            years: self.service.years + 1,
-            april: y.april,
-            revaluation: y.revaluation,
-            pension,
-        };
-        let mut next = self;
-        next.stage = YEARS;
-        next.service = service;
-        next.posts = YearPosts::none();
-        Taken {
-            case: next,
-            refusal: 0,
-        }
+        self.with_years(self.years.take_year(y))
     }
 
-    // An 03 taken.
+    // An 03.
     fn take_post(self, x: Post) -> Taken
         requires { ⌜ Bounds self ⌝ }
-        ensures { λ r. ⌜ r ≡ handedBack (postOrder (self .stage) (postsOf (self .posts)) x) self (withPost self x) ⌝ }
+        ensures { λ r. ⌜ r ≡ takenInOrder self (Frame.Post x) ⌝ }
     {
-        let refusal = refusal_of_post(self.stage, self.posts, x);
-        if refusal != 0 {
-            return Taken {
-                case: self,
-                refusal,
-            };
-        }
-        let posts = self.posts.joined(x);
-        let mut next = self;
-        next.stage = YEARS;
-        next.posts = posts;
-        Taken {
-            case: next,
-            refusal: 0,
-        }
+        self.with_years(self.years.take_post(x))
     }
 
-    // An 04 taken.
+    // An 04.
     fn take_pay(self, f: FinalPay) -> Taken
-        ensures { λ r. ⌜ r ≡ handedBack (payOrder (self .stage) (self .member .section) f) self (withPay self f) ⌝ }
+        ensures { λ r. ⌜ r ≡ takenInOrder self (Frame.FinalPay f) ⌝ }
     {
-        let refusal = refusal_of_pay(self.stage, self.member.section, f);
-        if refusal != 0 {
-            return Taken {
-                case: self,
-                refusal,
-            };
-        }
-        let mut next = self;
-        next.stage = PAY;
-        next.given = true;
-        next.pay = f;
+        let taken = self.section.take_pay(f);
+        let section = taken.section;
+        let mut case = self;
+        case.stage = stage_after(self.stage, taken.refusal, PAY);
+        case.section = section;
         Taken {
-            case: next,
-            refusal: 0,
+            case,
+            refusal: taken.refusal,
         }
     }
 
-    // An 05 taken.
+    // An 05.
     fn take_factor(self, f: Factor) -> Taken
-        ensures { λ r. ⌜ r ≡ handedBack (factorOrder (self .stage) (self .member .section) (self .previous) f) self (withFactor self f) ⌝ }
+        ensures { λ r. ⌜ r ≡ takenInOrder self (Frame.Factor f) ⌝ }
     {
-        let refusal = refusal_of_factor(self.stage, self.member.section, self.previous, f);
-        if refusal != 0 {
-            return Taken {
-                case: self,
-                refusal,
-            };
-        }
-        let months = f.months;
-        let previous = Place {
-            scheme: f.scheme,
-            months,
-        };
-        let dated = dated_by(self.dated, f);
-        let mut next = self;
-        next.stage = FACTORS;
-        next.previous = previous;
-        next.dated = dated;
+        let taken = self.factors.take_factor(self.member.section, f);
+        let factors = taken.factors;
+        let mut case = self;
+        case.stage = stage_after(self.stage, taken.refusal, FACTORS);
+        case.factors = factors;
         Taken {
-            case: next,
-            refusal: 0,
+            case,
+            refusal: taken.refusal,
         }
     }
 
-    // An 06 taken.
+    // An 06.
     fn take_debit(self, d: Debit) -> Taken
-        ensures { λ r. ⌜ r ≡ handedBack (debitOrder (self .stage) (self .member .section) (self .debits) d) self (withDebit self d) ⌝ }
+        ensures { λ r. ⌜ r ≡ takenInOrder self (Frame.Debit d) ⌝ }
     {
-        let refusal = refusal_of_debit(self.stage, self.member.section, self.debits, d);
-        if refusal != 0 {
-            return Taken {
-                case: self,
-                refusal,
-            };
-        }
-        let debits = Debits {
-            scheme: d.scheme,
-            pension2015: debit_by(self.debits.pension2015, 0, d),
-            pension1995: debit_by(self.debits.pension1995, 1, d),
-        };
-        let mut next = self;
-        next.stage = DEBITS;
-        next.debits = debits;
+        let taken = self.debits.take_debit(self.member.section, d);
+        let debits = taken.debits;
+        let mut case = self;
+        case.stage = stage_after(self.stage, taken.refusal, DEBITS);
+        case.debits = debits;
         Taken {
-            case: next,
-            refusal: 0,
+            case,
+            refusal: taken.refusal,
         }
     }
 
-    // A frame of any of the six kinds.
+    // A frame of any of the six kinds: 4, then its fields.
     fn step(self, frame: Frame) -> Taken
         requires { ⌜ Bounds self ⌝ }
         ensures { λ r. ⌜ r ≡ takenFrame self frame ⌝ }
     {
+        if !is_in_order(self.stage, self.member.section, frame) {
+            return Taken {
+                case: self,
+                refusal: 4,
+            };
+        }
         match frame {
             Frame::Member(m) => self.take_member(m),
             Frame::Year(y) => self.take_year(y),

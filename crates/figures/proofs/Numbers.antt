@@ -7,6 +7,7 @@ use native.Mathlib.Omega.{arith}
 use lib.ListN.{length, take, drop, set, length-set, drop-of-length-le}
 use lib.Seq.{take-suc-set, take-all, append-snoc}
 use Rattle.posts.specs.declared.Post.{Post}
+use Rattle.posts.specs.Limits.{tooManyPosts}
 use Rattle.input.proofs.Rest.{rest-at}
 use Rattle.figures.specs.Posts.{postFrom, postsOfNumbers}
 
@@ -20,12 +21,12 @@ three-on numbers at l =
 
 -- the first i posts, and behind them those of the numbers that are left, are the posts of all
 pub record Reading (numbers : List ℕ) (list : List Post) (i : ℕ) : Type 0 where
-  pub few : i ≤ 17
-  pub room : length list ≡ 17
+  pub few : i ≤ tooManyPosts
+  pub room : length list ≡ tooManyPosts
   pub is : take i list ++ postsOfNumbers (drop (3 * i + 1) numbers) ≡ postsOfNumbers (drop 1 numbers)
 
 module _ {numbers : List ℕ} {list : List Post} {i : ℕ} (r : Reading numbers list i) (many : length numbers ≡ 52) where
-  pub post-more : {x : Post} → i < 17 → x ≡ postFrom numbers (3 * i + 1) → Reading numbers (set list i x) (i + 1)
+  pub post-more : {x : Post} → i < tooManyPosts → x ≡ postFrom numbers (3 * i + 1) → Reading numbers (set list i x) (i + 1)
   post-more {x} l e =
       let next : 3 * i + 1 + 3 ≡ 3 * (i + 1) + 1 = omega arith in
       let on : postsOfNumbers (drop (3 * i + 1) numbers) ≡ x ∷ postsOfNumbers (drop (3 * (i + 1) + 1) numbers) =
@@ -43,7 +44,7 @@ module _ {numbers : List ℕ} {list : List Post} {i : ℕ} (r : Reading numbers 
             ∙ r .is;
       }
 
-  pub posts-all : 17 ≤ i → list ≡ postsOfNumbers (drop 1 numbers)
+  pub posts-all : tooManyPosts ≤ i → list ≡ postsOfNumbers (drop 1 numbers)
   unfolding postsOfNumbers
   posts-all l =
       sym (append-nil list)

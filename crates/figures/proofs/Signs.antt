@@ -1,12 +1,13 @@
 -- A signed number without its sign.
 use Prim.Native.Nat.{ℕ, suc, _+_}
-use mathlib.Core.Bool.{true, false, true≢false}
+use mathlib.Core.Bool.{true, false}
 use mathlib.Core.Path.{_≡_, _∙_, sym, ap, subst}
 use native.Mathlib.Omega.{arith}
 use lib.Dec.{T}
 use borrow.Author.Tests.{le-ltb, ltb-true}
 use lib.IntN.{ℤ, pos, negsuc, natAbs, _-ℤ_}
 use lib.Signed.{ltZ, mag, nonNeg}
+use Rattle.measures.proofs.Tests.{clash}
 use mir.Syntax.{w64}
 use mir.Val.{Fits, SFits, toZ, ofZ}
 use mir.Facts.{toZ-ofZ}
@@ -27,7 +28,7 @@ one-more (negsuc n) b = omega arith
 -- of another number
 not-below : (z : ℤ) → ltZ z (pos 0) ≡ false → T (nonNeg z)
 not-below (pos n) b = tt
-not-below (negsuc n) b = absurd (true≢false b)
+not-below (negsuc n) b = clash (cc)
 
 pub abs-fits : (z : ℤ) → SFits w64 z → Fits w64 (natAbs z)
 abs-fits (pos n) f = record { fits = omega (arith, f .sfits) }

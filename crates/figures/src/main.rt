@@ -1,7 +1,8 @@
-// Runs figures and limits through the calls and writes what each gave, one line for each call.
+// Runs figures and limits through the calls and writes what each gave, a line for each call.
 // Standard input is a script. After the label come numbers in decimal:
 //   P LABEL|PLACES H W P H W P    the posts call on posts, with this many places lent, 9 in each;
-//   B LABEL|PLACES BYTES          the same on bytes in hexadecimal, - for none;
+//   R LABEL|PLACES H W P H W P    the call on the posts as records, and in a second line the posts call on them;
+//   B LABEL|PLACES BYTES          the posts call on bytes in hexadecimal, - for none;
 //   D LABEL|Y M D Y M D AGE       the dates call on birth, retirement and pension age;
 //   C LABEL|PAYS TERMS            the charge call on the pays of years 4, 3, 2, 1, the allowances of years 3, 2, 1, the controls,
 //                                 the days and the factor;
@@ -19,6 +20,7 @@ use input::numbers_in;
 use input::read_input;
 use years::on_hexadecimal;
 use years::on_posts;
+use years::on_records;
 ghost use Prim.Native.Nat.{_≤_};
 ghost use lib.ListN.{length};
 
@@ -28,6 +30,7 @@ fn call(command: u8, label: &[u8], words: &[u8]) {
     numbers_in(words, &mut n);
     match command {
         b'P' => on_posts(label, words),
+        b'R' => on_records(label, words),
         b'B' => on_hexadecimal(label, words, n[0]),
         b'D' => dates(label, &n),
         b'C' => charge(label, &n),

@@ -6,9 +6,12 @@ use input::numbers_in;
 use input::spelled;
 use measures::Minutes;
 use measures::Pence;
+use posts::BYTES_OF_POST;
 use posts::Post;
+use posts::TOO_MANY_POSTS;
 use posts::posts_call;
-ghost use Prim.Native.Nat.{_≤_, _<_};
+use records::records_front_call;
+ghost use Prim.Native.Nat.{_%_, _≤_, _<_};
 ghost use mathlib.Core.Path.{_≡_};
 ghost use lib.ListN.{drop};
 ghost use Rattle.figures.specs.Posts.{postFrom, postsOfNumbers};
@@ -26,22 +29,29 @@ fn post(n: &[u64; 52], at: usize) -> Post
 }
 
 // The posts of three numbers each after the first number.
-fn posts_in(numbers: [u64; 52]) -> [Post; 17]
+fn posts_in(numbers: [u64; 52]) -> [Post; TOO_MANY_POSTS]
     ensures { λ r. ⌜ r ≡ postsOfNumbers (drop 1 numbers) ⌝ }
 {
     let first = post(&numbers, 1);
-    let mut list = [first; 17];
+    let mut list = [first; TOO_MANY_POSTS];
     let mut i: usize = 0;
-    while i < 17 {
+    while i < TOO_MANY_POSTS {
         list[i] = post(&numbers, 3 * i + 1);
         i += 1;
     }
     list
 }
 
+// The number of places that are lent where a line asks for n: 18 at most.
+fn lent_places(n: u64) -> usize
+    ensures { λ r. ⌜ r ≡ n % 19 ⌝ }
+{
+    (n % 19) as usize
+}
+
 // Writes the numbers in the lent places, the first of a list.
-fn places(list: &[u64; 17], lent: usize)
-    requires { ⌜ lent ≤ 17 ⌝ }
+fn places(list: &[u64; 18], lent: usize)
+    requires { ⌜ lent ≤ 18 ⌝ }
 {
     io::write_all(1, b"; places");
     let mut i: usize = 0;
@@ -51,10 +61,10 @@ fn places(list: &[u64; 17], lent: usize)
     }
 }
 
-// The posts call on bytes with this many places lent, fewer than 18.
+// The posts call on bytes with n places lent.
 fn on_bytes(label: &[u8], bytes: &[u8], n: u64) {
-    let mut list = [9u64; 17];
-    let lent = (n % 18) as usize;
+    let mut list = [9u64; 18];
+    let lent = lent_places(n);
     lines::answer(label, posts_call(bytes, &mut list[..lent]));
     places(&list, lent);
 }
@@ -64,8 +74,23 @@ pub fn on_posts(label: &[u8], words: &[u8]) {
     let mut numbers = [0u64; 52];
     let count = numbers_in(words, &mut numbers);
     let bytes = spelled(posts_in(numbers));
-    let n = 8 * (count / 3);
+    let n = BYTES_OF_POST * (count / 3);
     on_bytes(label, &bytes[..n], numbers[0]);
+}
+
+// The call on such posts as records, with every place, those that are not lent too; then on a line of its own the posts call on them.
+pub fn on_records(label: &[u8], words: &[u8]) {
+    let mut numbers = [0u64; 52];
+    let count = numbers_in(words, &mut numbers);
+    let mut list = [9u64; 18];
+    let lent = lent_places(numbers[0]);
+    lines::answer(
+        label,
+        records_front_call(posts_in(numbers), count / 3, &mut list[..lent]),
+    );
+    places(&list, 18);
+    io::write_all(1, b"\n");
+    on_posts(label, words);
 }
 
 // The posts call on the bytes that the second word spells.

@@ -7,6 +7,7 @@ use lib.Dec.{leb, eqb}
 use borrow.Author.Tests.{eqb-true, eq-eqb}
 use Rattle.measures.specs.Refusals.{within}
 use Rattle.measures.proofs.Tests.{passed, parts, neither}
+use Rattle.benefits.specs.Limits.{highestRevaluation, highestEarlyFactor, highestPot}
 use Rattle.calendar.specs.Dates.{datesRefusal}
 use Rattle.calendar.specs.Ranges.{Accepted}
 use Rattle.calendar.proofs.AcceptedDates.{accepted, accepted-age}
@@ -20,13 +21,13 @@ use Rattle.frames.specs.Limits.{memberRefusal, yearStands, schemeStands,
 pub record MemberGood (m : Member) : Type 0 where
   pub dates : Accepted (m .birth) (m .retirement)
   pub section : m .section ≤ 1
-  pub age-from : 55 ≤ m .age
-  pub age-to : m .age ≤ 75
+  pub age-from : 55 ≤ m .«pension_age»
+  pub age-to : m .«pension_age» ≤ 75
 
 pub member-good : (m : Member) → memberRefusal m ≡ 0 → MemberGood m
 unfolding memberRefusal
 member-good m e =
-    let none = neither (datesRefusal (m .birth) (m .retirement) (m .age)) _ e in
+    let none = neither (datesRefusal (m .birth) (m .retirement) (m .«pension_age»)) _ e in
     let section : leb (m .section) 1 ≡ true = passed _ 5 (omega arith) (none .1) in
     let age = accepted-age _ _ _ (none .0) in
     record { dates = accepted _ _ _ (none .0); section = search parts; age-from = age .0; age-to = age .1 }
@@ -35,7 +36,7 @@ member-good m e =
 pub record YearGood (y : Year) : Type 0 where
   pub april-from : 2015 ≤ y .april
   pub april-to : y .april ≤ 2100
-  pub revaluation : y .revaluation ≤ 2000
+  pub revaluation : y .revaluation ≤ highestRevaluation
 
 pub year-good : (y : Year) → yearStands y ≡ true → YearGood y
 unfolding yearStands
@@ -50,13 +51,10 @@ pub scheme-good : (scheme section : ℕ) → schemeStands scheme section ≡ tru
 unfolding schemeStands
 scheme-good scheme section e = by (eqb scheme 0) refl e
   where
-    other : scheme ≡ 0 → scheme ≡ 1 → section ≡ 1
-    other none one = absurd (let z : ⊥ = omega arith in z)
-
     by : (t : Bool) → eqb scheme 0 ≡ t → (t || (eqb scheme 1 && eqb section 1)) ≡ true → SchemeGood scheme section
     by true q e =
         let none : scheme ≡ 0 = eqb-true _ _ q in
-        record { known = omega arith; own = other none }
+        record { known = omega arith; own = λ one. omega arith }
     by false q e =
         let one : scheme ≡ 1 = search parts in
         let own : section ≡ 1 = search parts in
@@ -67,14 +65,14 @@ pub record FactorGood (f : Factor) (section : ℕ) : Type 0 where
   pub scheme : SchemeGood (f .scheme) section
   pub months-from : 1 ≤ f .months .0
   pub months-to : f .months .0 ≤ 600
-  pub pension : f .pension ≤ 1000
-  pub lump : f .lump ≤ 1000
+  pub pension : f .pension ≤ highestEarlyFactor
+  pub lump : f .lump ≤ highestEarlyFactor
   pub no-lump : f .scheme ≡ 0 → f .lump ≡ 0
 
 pub factor-good : (f : Factor) (section : ℕ) → factorRefusal f section ≡ 0 → FactorGood f section
 unfolding factorRefusal
 factor-good f section e =
-    let held : (schemeStands (f .scheme) section && within 1 600 (f .months .0) && leb (f .pension) 1000 && leb (f .lump) 1000 && (not (eqb (f .scheme) 0) || eqb (f .lump) 0)) ≡ true = passed _ 10 (omega arith) e in
+    let held : (schemeStands (f .scheme) section && within 1 600 (f .months .0) && leb (f .pension) highestEarlyFactor && leb (f .lump) highestEarlyFactor && (not (eqb (f .scheme) 0) || eqb (f .lump) 0)) ≡ true = passed _ 10 (omega arith) e in
     let lumped : (not (eqb (f .scheme) 0) || eqb (f .lump) 0) ≡ true = search parts in
     record {
       scheme = scheme-good _ _ (search parts);
@@ -88,11 +86,11 @@ factor-good f section e =
 -- a debit frame without refusal 11
 pub record DebitGood (d : Debit) (section : ℕ) : Type 0 where
   pub scheme : SchemeGood (d .scheme) section
-  pub pot : d .pot .0 ≤ 1000000000
+  pub pot : d .pot .0 ≤ highestPot
   pub factor : 1 ≤ d .factor
 
 pub debit-good : (d : Debit) (section : ℕ) → debitRefusal d section ≡ 0 → DebitGood d section
 unfolding debitRefusal
 debit-good d section e =
-    let held : (schemeStands (d .scheme) section && leb (d .pot .0) 1000000000 && leb 1 (d .factor)) ≡ true = passed _ 11 (omega arith) e in
+    let held : (schemeStands (d .scheme) section && leb (d .pot .0) highestPot && leb 1 (d .factor)) ≡ true = passed _ 11 (omega arith) e in
     record { scheme = scheme-good _ _ (search parts); pot = search parts; factor = search parts }

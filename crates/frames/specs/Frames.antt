@@ -7,6 +7,7 @@ use lib.ListN.{length}
 use Rattle.fields.specs.Fields.{oneAt, twoAt, fourAt}
 use Rattle.calendar.specs.declared.Date.{Date}
 use Rattle.posts.specs.declared.Post.{Post}
+use Rattle.posts.specs.Limits.{bytesOfPost}
 use Rattle.posts.specs.Call.{postAt}
 use Rattle.benefits.specs.declared.FinalPay.{FinalPay}
 use Rattle.frames.specs.declared.Member.{Member}
@@ -27,7 +28,7 @@ dateAt bytes at = record { year = twoAt bytes at; month = oneAt bytes (at + 2); 
 -- "01 member: birth and retirement (year 2, month 1, day 1 each), section 1 (0 none, 1 the 1995), pension age 1."
 unfoldable pub memberIn : List ℕ → Member
 memberIn bytes =
-    record { birth = dateAt bytes 1; retirement = dateAt bytes 5; section = oneAt bytes 9; age = oneAt bytes 10 }
+    record { birth = dateAt bytes 1; retirement = dateAt bytes 5; section = oneAt bytes 9; «pension_age» = oneAt bytes 10 }
 
 -- "02 year: April year (that of its 1 April) 2, revaluation 2."
 unfoldable pub yearIn : List ℕ → Year
@@ -68,7 +69,7 @@ unfoldable pub frameLength : ℕ → ℕ
 frameLength kind =
     cond (eqb kind 1) (1 + 4 + 4 + 1 + 1)
     (cond (eqb kind 2) (1 + 2 + 2)
-    (cond (eqb kind 3) (1 + 2 + 2 + 4)
+    (cond (eqb kind 3) (1 + bytesOfPost)
     (cond (eqb kind 4) (1 + 4 * 4 + 3 * 2 + 1 + 2 + 2)
     (cond (eqb kind 5) (1 + 1 + 2 + 2 + 2)
     (cond (eqb kind 6) (1 + 1 + 4 + 2)

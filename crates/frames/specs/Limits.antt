@@ -2,7 +2,8 @@
 use Prim.Native.Nat.{ℕ}
 use mathlib.Core.Bool.{Bool, _&&_, _||_, not}
 use lib.Dec.{leb, eqb}
-use Rattle.measures.specs.Refusals.{within, unless, first}
+use Rattle.measures.specs.Refusals.{within, unless, firstRefusal}
+use Rattle.benefits.specs.Limits.{highestRevaluation, highestEarlyFactor, highestPot}
 use Rattle.calendar.specs.Dates.{datesRefusal}
 use Rattle.frames.specs.declared.Member.{Member}
 use Rattle.frames.specs.declared.Year.{Year}
@@ -12,11 +13,11 @@ use Rattle.frames.specs.declared.Debit.{Debit}
 -- "5, year outside 1900 to 2100, month outside 1 to 12, a day that doesn't fit its Gregorian month, retirement before birth, section above 1,
 -- pension age outside 55 to 75."
 unfoldable pub memberRefusal : Member → ℕ
-memberRefusal m = first (datesRefusal (m .birth) (m .retirement) (m .age)) (unless (leb (m .section) 1) 5)
+memberRefusal m = firstRefusal (datesRefusal (m .birth) (m .retirement) (m .«pension_age»)) (unless (leb (m .section) 1) 5)
 
 -- "6, an April year outside 2015 to 2100, [..] revaluation above 2,000," turned round
 unfoldable pub yearStands : Year → Bool
-yearStands y = within 2015 2100 (y .april) && leb (y .revaluation) 2000
+yearStands y = within 2015 2100 (y .april) && leb (y .revaluation) highestRevaluation
 
 -- "scheme above 1 or scheme 1 without section 1," turned round
 unfoldable pub schemeStands : ℕ → ℕ → Bool
@@ -25,10 +26,10 @@ schemeStands scheme section = eqb scheme 0 || (eqb scheme 1 && eqb section 1)
 -- "10, scheme above 1 or scheme 1 without section 1, months 0 or above 600, a factor above 1,000, lump factor not 0 for scheme 0"
 unfoldable pub factorRefusal : Factor → ℕ → ℕ
 factorRefusal f section =
-    unless (schemeStands (f .scheme) section && within 1 600 (f .months .0) && leb (f .pension) 1000 && leb (f .lump) 1000
-    && (not (eqb (f .scheme) 0) || eqb (f .lump) 0)) 10
+    unless (schemeStands (f .scheme) section && within 1 600 (f .months .0) && leb (f .pension) highestEarlyFactor
+    && leb (f .lump) highestEarlyFactor && (not (eqb (f .scheme) 0) || eqb (f .lump) 0)) 10
 
 -- "11, scheme as in 10, pot above 1,000,000,000, factor 0"
 unfoldable pub debitRefusal : Debit → ℕ → ℕ
 debitRefusal d section =
-    unless (schemeStands (d .scheme) section && leb (d .pot .0) 1000000000 && leb 1 (d .factor)) 11
+    unless (schemeStands (d .scheme) section && leb (d .pot .0) highestPot && leb 1 (d .factor)) 11

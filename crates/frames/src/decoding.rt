@@ -3,6 +3,7 @@ use super::Debit;
 use super::Decoded;
 use super::Factor;
 use super::Frame;
+use super::LONGEST_FRAME;
 use super::Member;
 use super::Year;
 use benefits::FinalPay;
@@ -12,11 +13,15 @@ use fields::one_at;
 use fields::two_at;
 use measures::Months;
 use measures::Pence;
+use posts::BYTES_OF_POST;
 use posts::post_at;
 ghost use mathlib.Core.Path.{_≡_};
 ghost use Prim.Native.Nat.{_+_, _≤_};
 ghost use lib.ListN.{length};
 ghost use Rattle.frames.specs.Frames.{dateAt, memberIn, yearIn, finalPayIn, factorIn, debitIn, frameLength, frameOf, decoded, refusalIn};
+
+// The bytes of an 03: its kind and the post.
+const POST_FRAME: usize = 1 + BYTES_OF_POST;
 
 // The date whose 4 bytes begin at a place.
 fn date_at(bytes: &[u8], at: usize) -> Date
@@ -32,7 +37,7 @@ fn date_at(bytes: &[u8], at: usize) -> Date
 
 // The member in the bytes of an 01.
 fn member_in(bytes: &[u8]) -> Member
-    requires { ⌜ length (now bytes) ≡ 11 ⌝ }
+    requires { ⌜ length (now bytes) ≡ frameLength 1 ⌝ }
     ensures { λ r. ⌜ r ≡ memberIn (now (bytes .entry)) ⌝ }
 {
     let birth = date_at(bytes, 1);
@@ -41,13 +46,13 @@ fn member_in(bytes: &[u8]) -> Member
         birth,
         retirement,
         section: one_at(bytes, 9),
-        age: one_at(bytes, 10),
+        pension_age: one_at(bytes, 10),
     }
 }
 
 // The year in the bytes of an 02.
 fn year_in(bytes: &[u8]) -> Year
-    requires { ⌜ length (now bytes) ≡ 5 ⌝ }
+    requires { ⌜ length (now bytes) ≡ frameLength 2 ⌝ }
     ensures { λ r. ⌜ r ≡ yearIn (now (bytes .entry)) ⌝ }
 {
     Year {
@@ -58,7 +63,7 @@ fn year_in(bytes: &[u8]) -> Year
 
 // The final pay in the bytes of an 04.
 fn final_pay_in(bytes: &[u8]) -> FinalPay
-    requires { ⌜ length (now bytes) ≡ 28 ⌝ }
+    requires { ⌜ length (now bytes) ≡ frameLength 4 ⌝ }
     ensures { λ r. ⌜ r ≡ finalPayIn (now (bytes .entry)) ⌝ }
 {
     let pay4 = Pence(four_at(bytes, 1));
@@ -81,7 +86,7 @@ fn final_pay_in(bytes: &[u8]) -> FinalPay
 
 // The factor in the bytes of an 05.
 fn factor_in(bytes: &[u8]) -> Factor
-    requires { ⌜ length (now bytes) ≡ 8 ⌝ }
+    requires { ⌜ length (now bytes) ≡ frameLength 5 ⌝ }
     ensures { λ r. ⌜ r ≡ factorIn (now (bytes .entry)) ⌝ }
 {
     let months = Months(two_at(bytes, 2));
@@ -95,7 +100,7 @@ fn factor_in(bytes: &[u8]) -> Factor
 
 // The debit in the bytes of an 06.
 fn debit_in(bytes: &[u8]) -> Debit
-    requires { ⌜ length (now bytes) ≡ 8 ⌝ }
+    requires { ⌜ length (now bytes) ≡ frameLength 6 ⌝ }
     ensures { λ r. ⌜ r ≡ debitIn (now (bytes .entry)) ⌝ }
 {
     let pot = Pence(four_at(bytes, 2));
@@ -113,8 +118,8 @@ fn frame_length(kind: u64) -> usize
     match kind {
         1 => 11,
         2 => 5,
-        3 => 9,
-        4 => 28,
+        3 => POST_FRAME,
+        4 => LONGEST_FRAME,
         5 => 8,
         6 => 8,
         _ => 0,

@@ -23,7 +23,7 @@ pub struct Member {
     pub birth: Date,
     pub retirement: Date,
     pub section: u64,
-    pub age: u64,
+    pub pension_age: u64,
 }
 
 // A year: the calendar year of its 1 April, and its revaluation in ten-thousandths.

@@ -3,6 +3,9 @@ use super::Debit;
 use super::Factor;
 use super::Member;
 use super::Year;
+use benefits::HIGHEST_EARLY_FACTOR;
+use benefits::HIGHEST_POT;
+use benefits::HIGHEST_REVALUATION;
 use calendar::dates_refusal;
 ghost use mathlib.Core.Path.{_≡_};
 ghost use Rattle.frames.specs.Limits.{memberRefusal, yearStands, schemeStands, factorRefusal, debitRefusal};
@@ -11,7 +14,7 @@ ghost use Rattle.frames.specs.Limits.{memberRefusal, yearStands, schemeS
 pub fn member_refusal(m: Member) -> u64
     ensures { λ r. ⌜ r ≡ memberRefusal m ⌝ }
 {
-    let refusal = dates_refusal(m.birth, m.retirement, m.age);
+    let refusal = dates_refusal(m.birth, m.retirement, m.pension_age);
     if refusal != 0 {
         return refusal;
     }
@@ -31,7 +34,7 @@ pub fn year_stands(y: Year) -> bool
     if 2100 < y.april {
         return false;
     }
-    if 2000 < y.revaluation {
+    if HIGHEST_REVALUATION < y.revaluation {
         return false;
     }
     true
@@ -63,10 +66,10 @@ pub fn factor_refusal(f: Factor, section: u64) -> u64
     if 600 < f.months.0 {
         return 10;
     }
-    if 1000 < f.pension {
+    if HIGHEST_EARLY_FACTOR < f.pension {
         return 10;
     }
-    if 1000 < f.lump {
+    if HIGHEST_EARLY_FACTOR < f.lump {
         return 10;
     }
     if f.scheme != 0 {
@@ -85,7 +88,7 @@ pub fn debit_refusal(d: Debit, section: u64) -> u64
     if !scheme_stands(d.scheme, section) {
         return 11;
     }
-    if 1000000000 < d.pot.0 {
+    if HIGHEST_POT < d.pot.0 {
         return 11;
     }
     if d.factor < 1 {

@@ -1,12 +1,13 @@
 -- What two digits are, and the pairs of a text one after the other.
 use Prim.Native.Nat.{ℕ, _+_, _*_, _≤_, _<_}
-use mathlib.Core.Bool.{Bool, true, false, cond, true≢false}
+use mathlib.Core.Bool.{Bool, true, false, cond}
 use mathlib.Core.List.{List, [], _∷_}
 use mathlib.Core.Path.{_≡_, refl, sym, ap, _∙_}
 use lib.Dec.{ltb}
 use lib.ListN.{length, getD, drop, length-drop}
 use native.Mathlib.Omega.{arith}
 use borrow.Author.Tests.{ltb-true}
+use Rattle.measures.proofs.Tests.{clash}
 use Rattle.fields.specs.declared.Digit.{Digit}
 use Rattle.fields.specs.Digits.{digitOf}
 use Rattle.fields.proofs.Digits.{digit-small}
@@ -15,7 +16,7 @@ use Rattle.input.specs.Script.{valueOf, digitValue, areDigits, byteOf, b
 
 both : (a b : Bool) → cond a b false ≡ true → (a ≡ true) × (b ≡ true)
 both true b e = (refl, e)
-both false b e = absurd (true≢false (sym e))
+both false b e = clash (cc)
 
 pub high-digit : (x y : ℕ) → areDigits x y ≡ true → digitValue x < 16
 unfolding areDigits

@@ -7,47 +7,48 @@ use lib.ListN.{length, getD, take, drop, length-append, drop-of-length-le}
 use lib.Seq.{take-at, take-all, length-take-le}
 use Rattle.fields.specs.Fields.{oneAt, twoAt, fourAt}
 use Rattle.posts.specs.declared.Post.{Post}
+use Rattle.posts.specs.Limits.{bytesOfPost, tooManyPosts}
 use Rattle.posts.specs.Posts.{h, w, p, postOf}
 use Rattle.posts.specs.Call.{postAt}
 use Rattle.input.specs.Spelling.{twoBytes, fourBytes, postBytes, postsBytes, putAt}
 use Rattle.input.proofs.Rest.{rest-at}
 
-eight : (x : Post) → length (postBytes x) ≡ 8
+post-bytes : (x : Post) → length (postBytes x) ≡ bytesOfPost
 unfolding postBytes fourBytes twoBytes
-eight x = refl
+post-bytes x = refl
 
 -- the bytes of the first i posts, and behind them those of the others, are the bytes of all
 pub record Spelling (list : List Post) (bytes : List ℕ) (i : ℕ) : Type 0 where
-  pub few : i ≤ 17
-  pub room : length bytes ≡ 136
-  pub is : take (8 * i) bytes ++ postsBytes (drop i list) ≡ postsBytes list
+  pub few : i ≤ tooManyPosts
+  pub room : length bytes ≡ bytesOfPost * tooManyPosts
+  pub is : take (bytesOfPost * i) bytes ++ postsBytes (drop i list) ≡ postsBytes list
 
 module _ {list : List Post} {bytes : List ℕ} {i : ℕ} (s : Spelling list bytes i) where
-  pub post-more : {after : List ℕ} (none : Post) → length list ≡ 17 → i < 17 → length after ≡ length bytes → after ≡ putAt (postBytes (getD list i none)) (8 * i) bytes → Spelling list after (i + 1)
+  pub post-more : {after : List ℕ} (none : Post) → length list ≡ tooManyPosts → i < tooManyPosts → length after ≡ length bytes → after ≡ putAt (postBytes (getD list i none)) (bytesOfPost * i) bytes → Spelling list after (i + 1)
   unfolding postsBytes putAt
   post-more {after} none long l same e =
       let x : Post = getD list i none in
-      let head : List ℕ = take (8 * i) bytes ++ postBytes x in
-      let many : length head ≡ 8 * (i + 1) =
-      length-append (take (8 * i) bytes) (postBytes x) ∙ omega (arith, eight x, length-take-le (8 * i) bytes (omega arith)) in
-      let front : take (8 * (i + 1)) after ≡ head = ap (λ (b : List ℕ). take (8 * (i + 1)) b) e ∙ take-at head _ (8 * (i + 1)) many in
+      let head : List ℕ = take (bytesOfPost * i) bytes ++ postBytes x in
+      let many : length head ≡ bytesOfPost * (i + 1) =
+      length-append (take (bytesOfPost * i) bytes) (postBytes x) ∙ omega (arith, post-bytes x, length-take-le (bytesOfPost * i) bytes (omega arith)) in
+      let front : take (bytesOfPost * (i + 1)) after ≡ head = ap (λ (b : List ℕ). take (bytesOfPost * (i + 1)) b) e ∙ take-at head _ (bytesOfPost * (i + 1)) many in
       let rest : postsBytes (drop i list) ≡ postBytes x ++ postsBytes (drop (i + 1) list) = rw (rest-at list i none (omega arith)) in
       record {
         few = omega arith;
         room = same ∙ s .room;
         is =
             ap (λ (b : List ℕ). b ++ postsBytes (drop (i + 1) list)) front
-            ∙ append-assoc (take (8 * i) bytes) (postBytes x) (postsBytes (drop (i + 1) list))
-            ∙ ap (λ (b : List ℕ). take (8 * i) bytes ++ b) (sym rest)
+            ∙ append-assoc (take (bytesOfPost * i) bytes) (postBytes x) (postsBytes (drop (i + 1) list))
+            ∙ ap (λ (b : List ℕ). take (bytesOfPost * i) bytes ++ b) (sym rest)
             ∙ s .is;
       }
 
-  pub posts-all : length list ≡ 17 → 17 ≤ i → bytes ≡ postsBytes list
+  pub posts-all : length list ≡ tooManyPosts → tooManyPosts ≤ i → bytes ≡ postsBytes list
   unfolding postsBytes
   posts-all long l =
       sym (append-nil bytes)
-      ∙ ap (λ (b : List ℕ). b ++ []) (sym (take-all (8 * i) bytes (omega (arith, s .room))))
-      ∙ ap (λ (xs : List Post). take (8 * i) bytes ++ postsBytes xs) (sym (drop-of-length-le list {i = i} (omega arith)))
+      ∙ ap (λ (b : List ℕ). b ++ []) (sym (take-all (bytesOfPost * i) bytes (omega (arith, s .room))))
+      ∙ ap (λ (xs : List Post). take (bytesOfPost * i) bytes ++ postsBytes xs) (sym (drop-of-length-le list {i = i} (omega arith)))
       ∙ s .is
 
 same-post : (x : Post) {a b c : ℕ} → a ≡ h x → b ≡ w x → c ≡ p x → postOf a b c ≡ x

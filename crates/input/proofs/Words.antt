@@ -8,7 +8,7 @@ use native.Mathlib.Omega.{arith}
 use lib.Dec.{eqb}
 use lib.ListN.{length, take, drop, drop-of-length-le}
 use borrow.Author.Tests.{eq-eqb, ne-eqb}
-use Rattle.input.specs.Script.{EndAt, before, partedWords, wordsOf, numberOf, numbersOf, fromMark}
+use Rattle.input.specs.Script.{EndAt, before, partedWords, wordsOf, numberSpelled, numbersOf, fromMark}
 use Rattle.input.proofs.Rest.{rest-at}
 
 -- what stands before the first mark
@@ -69,10 +69,10 @@ module _ (text : List ℕ) (at : ℕ) where
   unfolding wordsOf
   no-word l = rw (drop-of-length-le text l)
 
-  pub next-number : (r : ℕ) → at < length text → EndAt text (at + 1) 32 r → numbersOf (drop at text) ≡ numberOf (take (r - (at + 1)) (drop (at + 1) text)) ∷ numbersOf (drop r text)
+  pub next-number : (r : ℕ) → at < length text → EndAt text (at + 1) 32 r → numbersOf (drop at text) ≡ numberSpelled (take (r - (at + 1)) (drop (at + 1) text)) ∷ numbersOf (drop r text)
   unfolding numbersOf
-  next-number r l e = ap (λ (words : List (List ℕ)). map numberOf words) (next-word r l e)
+  next-number r l e = ap (λ (words : List (List ℕ)). map numberSpelled words) (next-word r l e)
 
   pub no-number : length text ≤ at → numbersOf (drop at text) ≡ []
   unfolding numbersOf
-  no-number l = ap (λ (words : List (List ℕ)). map numberOf words) (no-word l)
+  no-number l = ap (λ (words : List (List ℕ)). map numberSpelled words) (no-word l)

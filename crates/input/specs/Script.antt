@@ -50,8 +50,8 @@ withDigits n [] = n
 withDigits n (x ∷ more) = withDigits (withDigit n x) more
 
 -- the number that decimal digits spell
-abbrev pub numberOf : List ℕ → ℕ
-numberOf text = withDigits 0 text
+abbrev pub numberSpelled : List ℕ → ℕ
+numberSpelled text = withDigits 0 text
 
 -- one more byte in front of the words of what follows it, `true` where it is a blank
 unfoldable pub before : Bool → ℕ → List (List ℕ) → List (List ℕ)
@@ -71,7 +71,7 @@ wordsOf (x ∷ more) = partedWords more
 
 -- the numbers of the words of a text
 unfoldable pub numbersOf : List ℕ → List ℕ
-numbersOf text = map numberOf (wordsOf text)
+numbersOf text = map numberSpelled (wordsOf text)
 
 -- what stands in a text from the first `mark` on; nothing where there is none
 unfoldable pub fromMark : ℕ → List ℕ → List ℕ

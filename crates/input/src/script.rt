@@ -5,7 +5,7 @@ ghost use Prim.Native.Nat.{_≤_};
 ghost use mathlib.Core.Bool.{true};
 ghost use mathlib.Core.Path.{_≡_};
 ghost use lib.ListN.{length};
-ghost use Rattle.input.specs.Script.{EndAt, digitValue, areDigits, byteOf, bytesSpelled, withDigit, numberOf, numbersOf, PutIn};
+ghost use Rattle.input.specs.Script.{EndAt, digitValue, areDigits, byteOf, bytesSpelled, withDigit, numberSpelled, numbersOf, PutIn};
 
 // The place of the next byte `mark` at or after a place, or the length.
 pub fn end_at(text: &[u8], from: usize, mark: u8) -> usize
@@ -82,7 +82,7 @@ fn with_digit(n: u64, x: u8) -> u64
 
 // The number that decimal digits spell.
 fn number_in(text: &[u8]) -> u64
-    ensures { λ r. ⌜ r ≡ numberOf (now (text .entry)) ⌝ }
+    ensures { λ r. ⌜ r ≡ numberSpelled (now (text .entry)) ⌝ }
 {
     let mut n: u64 = 0;
     let mut i: usize = 0;

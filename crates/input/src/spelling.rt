@@ -1,8 +1,11 @@
 // Posts spelled in bytes.
+use posts::BYTES_OF_POST;
 use posts::Post;
+use posts::TOO_MANY_POSTS;
 ghost use Prim.Native.Nat.{_+_, _≤_};
 ghost use mathlib.Core.Path.{_≡_};
 ghost use lib.ListN.{length};
+ghost use Rattle.posts.specs.Limits.{bytesOfPost};
 ghost use Rattle.input.specs.Spelling.{twoBytes, fourBytes, postBytes, postsBytes, putAt};
 
 // Puts the last two bytes of a number at a place.
@@ -25,7 +28,7 @@ fn put_four(bytes: &mut [u8], at: usize, n: u64)
 
 // Puts a post, h 2, w 2, p 4 bytes, at a place.
 fn put_post(bytes: &mut [u8], at: usize, x: Post)
-    requires { ⌜ at + 8 ≤ length (now bytes) ⌝ }
+    requires { ⌜ at + bytesOfPost ≤ length (now bytes) ⌝ }
     ensures { λ _. ⌜ now (bytes .exit) ≡ putAt (postBytes x) at (now (bytes .entry)) ⌝ }
 {
     put_two(bytes, at, x.contracted.0);
@@ -34,14 +37,14 @@ fn put_post(bytes: &mut [u8], at: usize, x: Post)
 }
 
 // The posts of a list in bytes.
-pub fn spelled(list: [Post; 17]) -> [u8; 136]
+pub fn spelled(list: [Post; TOO_MANY_POSTS]) -> [u8; BYTES_OF_POST * TOO_MANY_POSTS]
     ensures { λ r. ⌜ r ≡ postsBytes list ⌝ }
 {
-    let mut bytes = [0u8; 136];
+    let mut bytes = [0u8; BYTES_OF_POST * TOO_MANY_POSTS];
     let mut i: usize = 0;
-    while i < 17 {
+    while i < TOO_MANY_POSTS {
         let x = list[i];
-        put_post(&mut bytes, 8 * i, x);
+        put_post(&mut bytes, BYTES_OF_POST * i, x);
         i += 1;
     }
     bytes

@@ -6,26 +6,22 @@ use mathlib.Core.Logic.{⊎-elim}
 use Prim.Native.Nat.{ℕ, _+_, _*_, _-_, _≤_, _<_, min}
 use native.Mathlib.Nat.{mul-le-mul-right, mul-comm, zero-mul, le-refl, le-of-eq, mul-pos}
 use native.Mathlib.Omega.{arith}
+use Rattle.measures.specs.Lists.{All}
 use Rattle.measures.proofs.Tests.{le-or-lt}
 use Rattle.measures.specs.Rounding.{rounded}
 use Rattle.measures.proofs.Rounding.{rounded-mono, rounded-add, rounded-scale, rounded-whole, rounded-zero, rounded-bound}
 use Rattle.posts.specs.declared.Post.{Post}
-use Rattle.posts.specs.Division.{Claim, Rated, numerator, denominator, Within, nothing, more, Allowed, division}
+use Rattle.posts.specs.Division.{Claim, IsRate, numerator, denominator, Within, nothing, more, AllowedParts, division}
 use Rattle.posts.specs.Paid.{paid}
-use Rattle.posts.specs.Posts.{h, p, contractedMinutes, weightedParts, claims, aggregate, aggregatePay, wholeTime, anyWholeTime, wholeTimeParts, parts, Rival, RivalIf}
+use Rattle.posts.specs.Posts.{h, p, HasMinutes, contractedMinutes, weightedParts, claims, aggregate, aggregatePay, wholeTime, anyWholeTime, wholeTimeParts, parts, Rival, RivalIf}
 use Rattle.posts.proofs.Filling.{Filled, done, over, under, level, seen}
 use Rattle.posts.proofs.Optimum.{optimal-division, division-allowed, shares-within}
 
--- every post has contracted minutes
-abbrev pub Worked : List Post → Type 0
-Worked [] = Unit {0}
-Worked (x ∷ xs) = (0 < h x) × Worked xs
-
-pub rated : (H : ℕ) (xs : List Post) → Worked xs → Rated (claims H xs)
+pub rated : (H : ℕ) (xs : List Post) → All HasMinutes xs → All IsRate (claims H xs)
 rated H [] w = tt
 rated H (x ∷ xs) w = (w .0, rated H xs (w .1))
 
-denominator-pos : (xs : List Claim) → Rated xs → 0 < denominator xs
+denominator-pos : (xs : List Claim) → All IsRate xs → 0 < denominator xs
 denominator-pos [] w = omega arith
 denominator-pos (x ∷ xs) w = mul-pos (w .0) (denominator-pos xs (w .1))
 
@@ -69,12 +65,11 @@ sum-fraction H d a n D N t pH pd pD f =
     order : d * D * H ≡ d * H * D
     order = omega arith
 
--- claims of which a full one is worth a whole number: h × H parts at the rate p/h, H parts to a minute
-abbrev Minuted : ℕ → List Claim → Type 0
-Minuted H [] = Unit {0}
-Minuted H (x ∷ xs) = (x .most ≡ x .d * H) × Minuted H xs
+-- a claim that is worth a whole number in full: h × H parts at the rate p/h, H parts to a minute
+abbrev Minuted : ℕ → Claim → Type 0
+Minuted H x = x .most ≡ x .d * H
 
-minuted : (H : ℕ) (xs : List Post) → Minuted H (claims H xs)
+minuted : (H : ℕ) (xs : List Post) → All (Minuted H) (claims H xs)
 minuted H [] = tt
 minuted H (x ∷ xs) = (refl, minuted H xs)
 
@@ -86,7 +81,7 @@ module _ (H K : ℕ) (c : Claim) (pH : 0 < H) where
   none x a e = ap (λ (k : ℕ). k * x .n) e ∙ omega arith
 
   -- once K is used up, only whole numbers follow
-  filled-whole : {s : ℕ} {xs : List Claim} {cs : List ℕ} → Rated xs → Minuted H xs → Filled K c s xs cs → K ≤ s → numerator xs cs ≡ paid H xs cs * (denominator xs * H)
+  filled-whole : {s : ℕ} {xs : List Claim} {cs : List ℕ} → All IsRate xs → All (Minuted H) xs → Filled K c s xs cs → K ≤ s → numerator xs cs ≡ paid H xs cs * (denominator xs * H)
   unfolding paid
   filled-whole w m done g = omega arith
   filled-whole w m (over {x = x} {xs = xs} k f) g =
@@ -96,7 +91,7 @@ module _ (H K : ℕ) (c : Claim) (pH : 0 < H) where
   filled-whole w m (level {s = s} {x = x} {xs = xs} k k' f) g =
       sum-whole H (x .d) _ (x .n) 0 (denominator xs) _ pH (w .0) (denominator-pos xs (w .1)) (none x (min (x .most) (K - s)) (omega arith)) _ (filled-whole (w .1) (m .1) f (omega arith))
 
-  filled-rounded : {s : ℕ} {xs : List Claim} {cs : List ℕ} → Rated xs → Minuted H xs → Filled K c s xs cs → rounded (numerator xs cs) (denominator xs * H) ≡ paid H xs cs
+  filled-rounded : {s : ℕ} {xs : List Claim} {cs : List ℕ} → All IsRate xs → All (Minuted H) xs → Filled K c s xs cs → rounded (numerator xs cs) (denominator xs * H) ≡ paid H xs cs
   unfolding paid
   filled-rounded w m done = rounded-zero (1 * H) (omega arith)
   filled-rounded w m (over {x = x} {xs = xs} k f) =
@@ -109,12 +104,12 @@ module _ (H K : ℕ) (c : Claim) (pH : 0 < H) where
       (λ (g : s + x .most < K). sum-rounded H (x .d) _ (x .n) (x .n) (denominator xs) _ pH (w .0) (denominator-pos xs (w .1)) (full x (min (x .most) (K - s)) (m .0) (omega arith)) _ (filled-rounded (w .1) (m .1) f))
       (le-or-lt K (s + x .most))
 
-division-rounded : (H K : ℕ) (xs : List Claim) → 0 < H → Rated xs → Minuted H xs → rounded (numerator xs (division K xs)) (denominator xs * H) ≡ paid H xs (division K xs)
+division-rounded : (H K : ℕ) (xs : List Claim) → 0 < H → All IsRate xs → All (Minuted H) xs → rounded (numerator xs (division K xs)) (denominator xs * H) ≡ paid H xs (division K xs)
 division-rounded H K xs pH w m = let s = seen K xs w in filled-rounded H K (s .c) pH w m (s .filled)
 
 -- ---- a year with a whole-time post
 
-whole-rounded : (H : ℕ) (xs : List Post) → 0 < H → Worked xs → rounded (numerator (claims H xs) (wholeTimeParts H xs)) (denominator (claims H xs) * H) ≡ paid H (claims H xs) (wholeTimeParts H xs)
+whole-rounded : (H : ℕ) (xs : List Post) → 0 < H → All HasMinutes xs → rounded (numerator (claims H xs) (wholeTimeParts H xs)) (denominator (claims H xs) * H) ≡ paid H (claims H xs) (wholeTimeParts H xs)
 unfolding paid
 whole-rounded H [] pH w = rounded-zero (1 * H) (omega arith)
 whole-rounded H (x ∷ xs) pH w =
@@ -126,7 +121,7 @@ whole-rounded H (x ∷ xs) pH w =
 
 -- ---- the theorems
 
-pub aggregate-closed : (xs : List Post) → Worked xs → aggregatePay xs ≡ paid (contractedMinutes xs) (claims (contractedMinutes xs) xs) (parts xs)
+pub aggregate-closed : (xs : List Post) → All HasMinutes xs → aggregatePay xs ≡ paid (contractedMinutes xs) (claims (contractedMinutes xs) xs) (parts xs)
 unfolding paid rounded aggregate aggregatePay
 aggregate-closed [] w = refl
 aggregate-closed (x ∷ xs) w = by (anyWholeTime (x ∷ xs))
@@ -149,7 +144,7 @@ pub parts-part-time : (xs : List Post) → anyWholeTime xs ≡ false → parts x
 parts-part-time xs e = ap (λ (b : Bool). cond b (wholeTimeParts (contractedMinutes xs) xs) (division (weightedParts xs) (claims (contractedMinutes xs) xs))) e
 
 -- on exact fractions before rounding: every allowed division's numerator, over the one denominator, is at most ours
-pub optimal-exact : (xs : List Post) (qs : List ℕ) → Worked xs → Rival xs qs → numerator (claims (contractedMinutes xs) xs) qs ≤ numerator (claims (contractedMinutes xs) xs) (parts xs)
+pub optimal-exact : (xs : List Post) (qs : List ℕ) → All HasMinutes xs → Rival xs qs → numerator (claims (contractedMinutes xs) xs) qs ≤ numerator (claims (contractedMinutes xs) xs) (parts xs)
 optimal-exact xs qs w r = by (anyWholeTime xs) refl r
   where
     H : ℕ
@@ -162,7 +157,7 @@ optimal-exact xs qs w r = by (anyWholeTime xs) refl r
         (optimal-division (weightedParts xs) (claims H xs) qs (rated H xs w) k)
 
 -- every allowed division of a year's parts has an aggregate no larger than ours
-pub optimal : (xs : List Post) (qs : List ℕ) → Worked xs → Rival xs qs → aggregate xs qs ≤ aggregatePay xs
+pub optimal : (xs : List Post) (qs : List ℕ) → All HasMinutes xs → Rival xs qs → aggregate xs qs ≤ aggregatePay xs
 unfolding aggregate aggregatePay
 optimal [] qs w r = le-refl _
 optimal (x ∷ xs) qs w r =
@@ -172,13 +167,13 @@ optimal (x ∷ xs) qs w r =
     H = contractedMinutes (x ∷ xs)
 
 -- our own parts are one of the divisions that a rival may pick, so the largest aggregate is attained
-pub parts-allowed : (xs : List Post) → Worked xs → Rival xs (parts xs)
+pub parts-allowed : (xs : List Post) → All HasMinutes xs → Rival xs (parts xs)
 parts-allowed xs w = by (anyWholeTime xs) refl
   where
     by : (b : Bool) → anyWholeTime xs ≡ b → RivalIf b xs (parts xs)
     by true e = refl
     by false e =
-        subst (λ (z : List ℕ). Allowed (weightedParts xs) (claims (contractedMinutes xs) xs) z) (sym (parts-part-time xs e))
+        subst (λ (z : List ℕ). AllowedParts (weightedParts xs) (claims (contractedMinutes xs) xs) z) (sym (parts-part-time xs e))
         (division-allowed (weightedParts xs) (claims (contractedMinutes xs) xs) (rated (contractedMinutes xs) xs w))
 
 -- ---- no post has more than h × H parts, in a whole-time year too
@@ -213,7 +208,7 @@ numerator-bound H [] [] nothing = omega arith
 numerator-bound H (x ∷ xs) (q ∷ qs) (more g k) =
     omega (arith, mul-le-mul-right (p x * denominator (claims H xs)) g, mul-le-mul-right (h x) (numerator-bound H xs qs k))
 
-pub aggregate-bound : (xs : List Post) (qs : List ℕ) → Worked xs → Within (claims (contractedMinutes xs) xs) qs → aggregate xs qs ≤ payTotal xs
+pub aggregate-bound : (xs : List Post) (qs : List ℕ) → All HasMinutes xs → Within (claims (contractedMinutes xs) xs) qs → aggregate xs qs ≤ payTotal xs
 unfolding payTotal rounded aggregate
 aggregate-bound [] qs w k = omega arith
 aggregate-bound (x ∷ xs) qs w k =
@@ -228,7 +223,7 @@ unfoldable pub wholeTimePay : List Post → ℕ
 wholeTimePay [] = 0
 wholeTimePay (x ∷ xs) = cond (wholeTime x) (p x) 0 + wholeTimePay xs
 
-paid-whole : (H : ℕ) (xs : List Post) → 0 < H → Worked xs → paid H (claims H xs) (wholeTimeParts H xs) ≡ wholeTimePay xs
+paid-whole : (H : ℕ) (xs : List Post) → 0 < H → All HasMinutes xs → paid H (claims H xs) (wholeTimeParts H xs) ≡ wholeTimePay xs
 unfolding paid wholeTimePay
 paid-whole H [] pH w = refl
 paid-whole H (x ∷ xs) pH w = ap₂ _+_ (by (wholeTime x)) (paid-whole H xs pH (w .1))
@@ -237,7 +232,7 @@ paid-whole H (x ∷ xs) pH w = ap₂ _+_ (by (wholeTime x)) (paid-whole H xs pH 
     by true = ap (λ (k : ℕ). rounded k (h x * H)) (mul-comm (h x * H) (p x)) ∙ rounded-whole (p x) (h x * H) (mul-pos (w .0) pH)
     by false = ap (λ (k : ℕ). rounded k (h x * H)) (zero-mul (p x)) ∙ rounded-zero (h x * H) (mul-pos (w .0) pH)
 
-pub aggregate-whole-time : (xs : List Post) → Worked xs → anyWholeTime xs ≡ true → aggregatePay xs ≡ wholeTimePay xs
+pub aggregate-whole-time : (xs : List Post) → All HasMinutes xs → anyWholeTime xs ≡ true → aggregatePay xs ≡ wholeTimePay xs
 unfolding wholeTimePay rounded aggregate aggregatePay
 aggregate-whole-time [] w e = refl
 aggregate-whole-time (x ∷ xs) w e =

@@ -8,4 +8,5 @@ pub mod Comparing
 pub mod Standing
 pub mod Turns
 pub mod Ranked
+pub mod ReadingLaws
 pub mod Calling

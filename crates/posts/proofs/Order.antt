@@ -5,11 +5,12 @@ use mathlib.Core.List.{List, [], _∷_}
 use Prim.Native.Nat.{ℕ, _+_, _*_, _≤_}
 use native.Mathlib.Nat.{le-antisymm, le-of-eq, le-trans}
 use native.Mathlib.Omega.{arith}
+use Rattle.measures.specs.Lists.{All}
 use Rattle.measures.specs.Rounding.{rounded}
 use Rattle.posts.specs.declared.Post.{Post}
 use Rattle.posts.specs.Division.{numerator, denominator, Within, nothing, more, total}
-use Rattle.posts.specs.Posts.{h, w, p, contractedMinutes, weightedParts, claims, aggregate, aggregatePay, wholeTime, anyWholeTime, parts, RivalIf}
-use Rattle.posts.proofs.Aggregate.{Worked, optimal, parts-allowed, wholeTimePay, aggregate-whole-time}
+use Rattle.posts.specs.Posts.{h, w, p, HasMinutes, contractedMinutes, weightedParts, claims, aggregate, aggregatePay, wholeTime, anyWholeTime, parts, RivalIf}
+use Rattle.posts.proofs.Aggregate.{optimal, parts-allowed, wholeTimePay, aggregate-whole-time}
 
 -- the same posts in another order
 pub data Reordered : List Post → List Post → Type 0 where
@@ -30,7 +31,7 @@ record Alike (xs ys : List Post) : Type 0 where
   weights : weightedParts xs ≡ weightedParts ys
   pays : wholeTimePay xs ≡ wholeTimePay ys
   tests : anyWholeTime xs ≡ anyWholeTime ys
-  works : Worked xs → Worked ys
+  works : All HasMinutes xs → All HasMinutes ys
 
 alike : {xs ys : List Post} → Reordered xs ys → Alike xs ys
 unfolding wholeTimePay
@@ -75,7 +76,7 @@ move H (chain r s) k =
     let n = move H s (m .within) in
     record { division = n .division; within = n .within; together = n .together ∙ m .together; worth = n .worth ∙ m .worth }
 
-one-way : {xs ys : List Post} → Reordered xs ys → Worked xs → anyWholeTime xs ≡ false → aggregatePay xs ≤ aggregatePay ys
+one-way : {xs ys : List Post} → Reordered xs ys → All HasMinutes xs → anyWholeTime xs ≡ false → aggregatePay xs ≤ aggregatePay ys
 unfolding aggregate aggregatePay
 one-way {xs} {ys} r u e =
     le-trans
@@ -97,7 +98,7 @@ one-way {xs} {ys} r u e =
     within : Within (claims (contractedMinutes ys) ys) (m .division)
     within = subst (λ (n : ℕ). Within (claims n ys) (m .division)) (a .minutes) (m .within)
 
-pub order-free : {xs ys : List Post} → Reordered xs ys → Worked xs → aggregatePay xs ≡ aggregatePay ys
+pub order-free : {xs ys : List Post} → Reordered xs ys → All HasMinutes xs → aggregatePay xs ≡ aggregatePay ys
 order-free {xs} {ys} r u = by (anyWholeTime xs) refl
   where
     a : Alike xs ys

@@ -10,13 +10,13 @@ use lib.Dec.{ltb}
 use lib.ListN.{length, take, drop, getD, set, length-set, drop-of-length-le}
 use lib.Seq.{drop-cons, set-at, append-snoc, getD-take, take-suc, take-all, length-take-le}
 use borrow.Author.Tests.{ltb-true, ltb-false, le-ltb}
+use Rattle.measures.specs.Limits.{highestPay, mostPosts}
 use Rattle.measures.specs.Rounding.{rounded}
 use Rattle.posts.specs.declared.Post.{Post}
 use Rattle.posts.specs.declared.YearPosts.{YearPosts}
 use Rattle.posts.specs.Division.{Claim, Within, nothing, more, higher, noLower, partsOf, claimAt, division, shares}
 use Rattle.posts.specs.Posts.{h, p, contractedMinutes, weightedParts, claim, claims, wholeTime, anyWholeTime, wholeTimeParts, parts, aggregatePay}
-use Rattle.posts.specs.Rates.{rankedBefore}
-use Rattle.posts.specs.Sums.{minutesAhead}
+use Rattle.posts.specs.Rates.{rankedBefore, minutesAhead}
 use Rattle.posts.specs.Paid.{paid}
 use Rattle.posts.specs.Year.{noPost, noParts, postsOf, Held}
 use Rattle.posts.proofs.Aggregate.{aggregate-closed, parts-within}
@@ -45,28 +45,28 @@ unfolding minutesAhead
 ahead-none x zero = refl
 ahead-none x (suc k) = refl
 
-pub counted-most : (b : Bool) (n : ℕ) → cond b n 0 ≤ n
-counted-most true n = omega arith
-counted-most false n = omega arith
+pub minutes-if-most : (b : Bool) (n : ℕ) → cond b n 0 ≤ n
+minutes-if-most true n = omega arith
+minutes-if-most false n = omega arith
 
 pub ahead-most : (x : Post) (k : ℕ) (xs : List Post) → minutesAhead x k xs ≤ contractedMinutes xs
 unfolding minutesAhead
 ahead-most x zero [] = omega arith
 ahead-most x (suc k) [] = omega arith
-ahead-most x zero (y ∷ ys) = omega (arith, ahead-most x zero ys, counted-most (rankedBefore x false y) (h y))
-ahead-most x (suc k) (y ∷ ys) = omega (arith, ahead-most x k ys, counted-most (rankedBefore x true y) (h y))
+ahead-most x zero (y ∷ ys) = omega (arith, ahead-most x zero ys, minutes-if-most (rankedBefore x false y) (h y))
+ahead-most x (suc k) (y ∷ ys) = omega (arith, ahead-most x k ys, minutes-if-most (rankedBefore x true y) (h y))
 
-counted-times : (b : Bool) (n H : ℕ) → cond b n 0 * H ≡ cond b (n * H) 0
-counted-times true n H = refl
-counted-times false n H = omega arith
+minutes-if-times : (b : Bool) (n H : ℕ) → cond b n 0 * H ≡ cond b (n * H) 0
+minutes-if-times true n H = refl
+minutes-if-times false n H = omega arith
 
 -- as parts, H to a minute
 ahead-parts : (H : ℕ) (x : Post) (k : ℕ) (xs : List Post) → minutesAhead x k xs * H ≡ partsOf (noLower (claim H x)) (take k (claims H xs)) + partsOf (higher (claim H x)) (drop k (claims H xs))
 unfolding minutesAhead
 ahead-parts H x zero [] = omega arith
 ahead-parts H x (suc k) [] = omega arith
-ahead-parts H x zero (y ∷ ys) = omega (arith, ahead-parts H x zero ys, counted-times (rankedBefore x false y) (h y) H)
-ahead-parts H x (suc k) (y ∷ ys) = omega (arith, ahead-parts H x k ys, counted-times (rankedBefore x true y) (h y) H)
+ahead-parts H x zero (y ∷ ys) = omega (arith, ahead-parts H x zero ys, minutes-if-times (rankedBefore x false y) (h y) H)
+ahead-parts H x (suc k) (y ∷ ys) = omega (arith, ahead-parts H x k ys, minutes-if-times (rankedBefore x true y) (h y) H)
 
 -- ---- the parts of the post at a place
 
@@ -173,9 +173,9 @@ paidFrom y i = paid (y .minutes .0) (claims (y .minutes .0) (drop i (postsOf y))
 -- the parts and the pay of the posts before place i
 pub record Upto (y : YearPosts) (out : List ℕ) (pay i : ℕ) : Type 0 where
   pub within : i ≤ y .count
-  pub room : length out ≡ 16
+  pub room : length out ≡ mostPosts
   pub written : out ≡ take i (parts (postsOf y)) ++ drop i noParts
-  pub most : pay ≤ 1000000000 * i
+  pub most : pay ≤ highestPay * i
   pub earned : pay + paidFrom y i ≡ aggregatePay (postsOf y)
 
 module _ (y : YearPosts) (held : Held y) where
@@ -225,7 +225,7 @@ module _ (y : YearPosts) (held : Held y) where
   upto-start = record { within = omega arith; room = refl; written = refl; most = omega arith; earned = omega (arith, paid-all) }
 
   pub upto-turn : (out : List ℕ) (pay i part earned : ℕ) → Upto y out pay i → i < y .count → part ≡ getD (parts (postsOf y)) i 0
-      → earned ≡ rounded (part * p (getD (y .list) i noPost)) (h (getD (y .list) i noPost) * y .minutes .0) → earned ≤ 1000000000
+      → earned ≡ rounded (part * p (getD (y .list) i noPost)) (h (getD (y .list) i noPost) * y .minutes .0) → earned ≤ highestPay
       → Upto y (set out i part) (pay + earned) (i + 1)
   upto-turn out pay i part earned u g e f few =
       record {

@@ -1,9 +1,10 @@
+pub mod Limits
 pub mod Division
 pub mod Posts
 pub mod Refusals
 pub mod Lent
 pub mod Call
 pub mod Rates
-pub mod Sums
 pub mod Paid
 pub mod Year
+pub mod Reading

@@ -1,11 +1,11 @@
 -- "Posts of a year": the parts that each post gets, and the aggregate pay.
 use mathlib.Core.Path.{_≡_}
-use Prim.Native.Nat.{ℕ, _+_, _*_}
+use Prim.Native.Nat.{ℕ, _+_, _*_, _<_}
 use mathlib.Core.Bool.{Bool, true, false, cond}
 use mathlib.Core.List.{List, [], _∷_}
 use lib.Dec.{eqb}
 use Rattle.measures.specs.Rounding.{rounded}
-use Rattle.posts.specs.Division.{Claim, division, Allowed, numerator, denominator}
+use Rattle.posts.specs.Division.{Claim, division, AllowedParts, numerator, denominator}
 use Rattle.posts.specs.declared.Post.{Post}
 
 -- "Post i has contracted minutes h,
@@ -23,6 +23,10 @@ p x = x .pay .0
 -- a post of h, w and p
 abbrev pub postOf : ℕ → ℕ → ℕ → Post
 postOf minutes week pence = record { contracted = record { 0 = minutes }; whole = record { 0 = week }; pay = record { 0 = pence } }
+
+-- it has contracted minutes, so that p/h is a rate
+abbrev pub HasMinutes : Post → Type 0
+HasMinutes x = 0 < h x
 
 -- "H is the sum of h"
 abbrev pub contractedMinutes : List Post → ℕ
@@ -77,7 +81,7 @@ aggregatePay xs = aggregate xs (parts xs)
 -- in a year with a post of h = w it has instead the parts that the posts step gives, even where they pass K."
 abbrev pub RivalIf : Bool → List Post → List ℕ → Type 0
 RivalIf true xs qs = qs ≡ parts xs
-RivalIf false xs qs = Allowed (weightedParts xs) (claims (contractedMinutes xs) xs) qs
+RivalIf false xs qs = AllowedParts (weightedParts xs) (claims (contractedMinutes xs) xs) qs
 
 -- the same by whether a post has h = w
 abbrev pub Rival : List Post → List ℕ → Type 0

@@ -1,9 +1,11 @@
--- The rates p/h of two posts compared.
-use mathlib.Core.Bool.{Bool, cond}
+-- The rates p/h of two posts compared, and the minutes of the posts that go before another.
+use Prim.Native.Nat.{ℕ, zero, suc, _+_}
+use mathlib.Core.Bool.{Bool, true, false, cond}
+use mathlib.Core.List.{List, [], _∷_}
 use Rattle.posts.specs.declared.Post.{Post}
 use Rattle.posts.specs.declared.Comparison.{Comparison}
 use Rattle.posts.specs.Division.{Claim, higher, noLower}
-use Rattle.posts.specs.Posts.{claim}
+use Rattle.posts.specs.Posts.{h, claim}
 
 -- a post by its rate alone
 abbrev pub byRate : Post → Claim
@@ -19,3 +21,9 @@ comparison x y =
 -- whether y goes before x: "of equal rates the post earlier in the list goes first"
 abbrev pub rankedBefore : Post → Bool → Post → Bool
 rankedBefore x earlier y = cond earlier (noLower (byRate x) (byRate y)) (higher (byRate x) (byRate y))
+
+-- the minutes of the posts that go before x, the first k of the list being those earlier than x
+unfoldable pub minutesAhead : Post → ℕ → List Post → ℕ
+minutesAhead x k [] = 0
+minutesAhead x zero (y ∷ ys) = cond (rankedBefore x false y) (h y) 0 + minutesAhead x zero ys
+minutesAhead x (suc k) (y ∷ ys) = cond (rankedBefore x true y) (h y) 0 + minutesAhead x k ys

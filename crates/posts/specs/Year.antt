@@ -2,14 +2,17 @@
 use Prim.Native.Nat.{ℕ, _+_, _*_, _≤_}
 use mathlib.Core.Path.{_≡_}
 use mathlib.Core.Bool.{true, false, cond}
-use mathlib.Core.List.{List, [], _∷_, _++_}
+use mathlib.Core.List.{List, _++_}
+use lib.Dec.{eqb}
 use lib.ListN.{length, take, drop, set, replicate}
+use Rattle.measures.specs.Lists.{All}
 use Rattle.posts.specs.declared.Post.{Post}
 use Rattle.posts.specs.declared.YearPosts.{YearPosts}
 use Rattle.posts.specs.declared.Allocation.{Allocation}
-use Rattle.posts.specs.declared.call.PostsRead.{PostsRead}
+use Rattle.posts.specs.declared.Changed.{Changed}
+use Rattle.measures.specs.Limits.{mostPosts}
 use Rattle.posts.specs.Posts.{postOf, h, w, contractedMinutes, weightedParts, wholeTime, anyWholeTime, parts, aggregatePay}
-use Rattle.posts.specs.Refusals.{postStands, postsRefusal}
+use Rattle.posts.specs.Refusals.{Stands, postRefusal}
 
 -- a place that holds no post
 abbrev pub noPost : Post
@@ -19,23 +22,18 @@ noPost = postOf 0 0 0
 abbrev pub postsOf : YearPosts → List Post
 postsOf y = take (y .count) (y .list)
 
--- 7 refuses none of them
-abbrev pub AllStand : List Post → Type 0
-AllStand [] = Unit {0}
-AllStand (x ∷ xs) = (postStands x ≡ true) × AllStand xs
-
 -- what holds of a year that posts joined one by one, none of them refused
 pub record Held (y : YearPosts) : Type 0 where
-  pub room : length (y .list) ≡ 16
-  pub few : y .count ≤ 16
+  pub room : length (y .list) ≡ mostPosts
+  pub few : y .count ≤ mostPosts
   pub minutes : y .minutes .0 ≡ contractedMinutes (postsOf y)
   pub weighted : y .weighted ≡ weightedParts (postsOf y)
   pub whole : y .whole ≡ anyWholeTime (postsOf y)
-  pub stand : AllStand (postsOf y)
+  pub stand : All Stands (postsOf y)
 
 -- a year without posts
 abbrev pub noPosts : YearPosts
-noPosts = record { list = replicate 16 noPost; count = 0; minutes = record { 0 = 0 }; weighted = 0; whole = false }
+noPosts = record { list = replicate mostPosts noPost; count = 0; minutes = record { 0 = 0 }; weighted = 0; whole = false }
 
 -- the year that a post has joined at the end
 unfoldable pub joinedBy : YearPosts → Post → YearPosts
@@ -48,17 +46,15 @@ joinedBy y x =
       whole = cond (y .whole) true (wholeTime x);
     }
 
--- no parts in any of the sixteen places
+-- a post is to join a year: the year then, and beside it the refusal, 0 for none. Refused, the year is as it was
+unfoldable pub joining : YearPosts → Post → Changed
+joining y x = record { year = cond (eqb (postRefusal (postsOf y) x) 0) (joinedBy y x) y; refusal = postRefusal (postsOf y) x }
+
+-- no parts in any place
 abbrev pub noParts : List ℕ
-noParts = replicate 16 0
+noParts = replicate mostPosts 0
 
 -- the parts of each post, noughts in the places past the last, and the aggregate pay
 pub record Allocated (y : YearPosts) (a : Allocation) : Type 0 where
   pub parts : a .parts ≡ parts (postsOf y) ++ drop (y .count) noParts
   pub aggregate : a .aggregate .0 ≡ aggregatePay (postsOf y)
-
--- posts read up to the first that is refused
-pub record ReadPosts (xs : List Post) (r : PostsRead) : Type 0 where
-  pub refusal : r .refusal ≡ postsRefusal [] xs
-  pub held : Held (r .year)
-  pub posts : r .refusal ≡ 0 → postsOf (r .year) ≡ xs

@@ -4,12 +4,27 @@ use measures::Pence;
 
 mod call;
 mod rates;
+mod reading;
 mod year;
 
-pub use call::allocate_into;
 pub use call::post_at;
 pub use call::posts_call;
 pub use rates::compare_rates;
+pub use reading::read_on;
+pub use reading::reading_begun;
+pub use reading::reading_finished;
+
+// The most posts that a year has.
+pub const MOST_POSTS: usize = 16;
+
+// One post more than that: the shortest list that is refused for its length.
+pub const TOO_MANY_POSTS: usize = MOST_POSTS + 1;
+
+// The bytes that spell a post.
+pub const BYTES_OF_POST: usize = 8;
+
+// The most whole-time minutes of a post.
+pub const LONGEST_WEEK: u64 = 10080;
 
 // A post: contracted minutes, whole-time minutes, yearly pay.
 pub struct Post {
@@ -27,15 +42,21 @@ pub enum Comparison {
 
 // The posts of a year, and beside them H, K and whether one of them is whole-time.
 pub struct YearPosts {
-    list: [Post; 16],
+    list: [Post; MOST_POSTS],
     count: usize,
     minutes: Minutes,
     weighted: u64,
     whole: bool,
 }
 
+// A year after a change was tried, and the refusal beside it, 0 for none. Refused, the year is as it was.
+pub struct Changed {
+    pub year: YearPosts,
+    pub refusal: u64,
+}
+
 // The parts of each post, and the aggregate pay.
 pub struct Allocation {
-    pub parts: [u64; 16],
+    pub parts: [u64; MOST_POSTS],
     pub aggregate: Pence,
 }

@@ -4,14 +4,15 @@ use super::Post;
 use measures::Minutes;
 use measures::Pence;
 ghost use mathlib.Core.Path.{_≡_};
-ghost use mathlib.Core.Bool.{true};
 ghost use Prim.Native.Nat.{_*_, _≤_};
-ghost use Rattle.posts.specs.Refusals.{postStands};
+ghost use Rattle.measures.specs.Limits.{highestPay};
+ghost use Rattle.posts.specs.Limits.{longestWeek};
+ghost use Rattle.posts.specs.Refusals.{Stands};
 ghost use Rattle.posts.specs.Rates.{comparison, rankedBefore};
 
 // A pay times contracted minutes, as two rates are compared.
 fn pay_times(pay: Pence, minutes: Minutes) -> u64
-    requires { ⌜ (pay .0 ≤ 1000000000) × (minutes .0 ≤ 10080) ⌝ }
+    requires { ⌜ (pay .0 ≤ highestPay) × (minutes .0 ≤ longestWeek) ⌝ }
     ensures { λ r. ⌜ r ≡ pay .0 * minutes .0 ⌝ }
 {
     pay.0 * minutes.0
@@ -19,7 +20,7 @@ fn pay_times(pay: Pence, minutes: Minutes) -> u64
 
 // Whether the rate of x is higher than, lower than or equal to that of y.
 pub fn compare_rates(x: Post, y: Post) -> Comparison
-    requires { ⌜ (postStands x ≡ true) × (postStands y ≡ true) ⌝ }
+    requires { ⌜ Stands x × Stands y ⌝ }
     ensures { λ r. ⌜ r ≡ comparison x y ⌝ }
 {
     let own = pay_times(x.pay, y.contracted);
@@ -36,7 +37,7 @@ pub fn compare_rates(x: Post, y: Post) -> Comparison
 // Whether y goes before x: at a higher rate, or at an equal one where y is the earlier in the list. It is asked of every two posts of a
 // year, in no order that a processor could foresee, so it has no branch.
 pub fn goes_before(x: Post, earlier: bool, y: Post) -> bool
-    requires { ⌜ (postStands x ≡ true) × (postStands y ≡ true) ⌝ }
+    requires { ⌜ Stands x × Stands y ⌝ }
     ensures { λ r. ⌜ r ≡ rankedBefore x earlier y ⌝ }
 {
     let own = pay_times(y.pay, x.contracted);

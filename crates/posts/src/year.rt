@@ -1,20 +1,26 @@
 // The posts of a year, held in list order.
 use super::Allocation;
+use super::Changed;
+use super::LONGEST_WEEK;
+use super::MOST_POSTS;
 use super::Post;
 use super::YearPosts;
 use super::rates::goes_before;
+use measures::HIGHEST_PAY;
 use measures::Minutes;
 use measures::Pence;
-use measures::rounded;
+use measures::scaled;
 ghost use mathlib.Core.Path.{_≡_};
 ghost use mathlib.Core.Bool.{cond, true};
 ghost use Prim.Native.Nat.{_+_, _*_, _-_, _≤_, _<_, min};
 ghost use lib.ListN.{getD};
+ghost use Rattle.measures.specs.Limits.{highestPay};
 ghost use Rattle.measures.specs.Rounding.{rounded};
+ghost use Rattle.posts.specs.Limits.{longestWeek, heaviestWeek, mostMinutes};
 ghost use Rattle.posts.specs.Posts.{h, p, wholeTime, parts};
-ghost use Rattle.posts.specs.Refusals.{postStands, postRefusal};
-ghost use Rattle.posts.specs.Sums.{minutesAhead};
-ghost use Rattle.posts.specs.Year.{noPost, noPosts, postsOf, Held, joinedBy, Allocated};
+ghost use Rattle.posts.specs.Refusals.{Stands, postStands, postRefusal};
+ghost use Rattle.posts.specs.Rates.{minutesAhead};
+ghost use Rattle.posts.specs.Year.{noPost, noPosts, postsOf, Held, joinedBy, joining, Allocated};
 
 // Whether the fields of a post stand (7 otherwise).
 fn stands(x: Post) -> bool
@@ -26,10 +32,10 @@ fn stands(x: Post) -> bool
     if x.whole.0 < x.contracted.0 {
         return false;
     }
-    if 10080 < x.whole.0 {
+    if LONGEST_WEEK < x.whole.0 {
         return false;
     }
-    if 1000000000 < x.pay.0 {
+    if HIGHEST_PAY < x.pay.0 {
         return false;
     }
     true
@@ -42,33 +48,34 @@ fn is_whole_time(x: Post) -> bool
     x.contracted.0 == x.whole.0
 }
 
-fn either(a: bool, b: bool) -> bool
-    ensures { λ r. ⌜ r ≡ cond a true b ⌝ }
+// Whether one of the posts before or this one is whole-time.
+fn any_whole_time(before: bool, x: Post) -> bool
+    ensures { λ r. ⌜ r ≡ cond before true (wholeTime x) ⌝ }
 {
-    if a { true } else { b }
+    if before { true } else { is_whole_time(x) }
 }
 
 // The whole-time minutes times the contracted ones: what a post adds to K.
 fn weighted_week(contracted: Minutes, whole: Minutes) -> u64
-    requires { ⌜ (contracted .0 ≤ 10080) × (whole .0 ≤ 10080) ⌝ }
-    ensures { λ r. ⌜ (r ≡ whole .0 * contracted .0) × (r ≤ 10080 * 10080) ⌝ }
+    requires { ⌜ (contracted .0 ≤ longestWeek) × (whole .0 ≤ longestWeek) ⌝ }
+    ensures { λ r. ⌜ (r ≡ whole .0 * contracted .0) × (r ≤ heaviestWeek) ⌝ }
 {
     whole.0 * contracted.0
 }
 
 // Minutes as parts, H parts to a minute.
 fn in_parts(minutes: Minutes, total: Minutes) -> u64
-    requires { ⌜ (minutes .0 ≤ 161280) × (total .0 ≤ 161280) ⌝ }
+    requires { ⌜ (minutes .0 ≤ mostMinutes) × (total .0 ≤ mostMinutes) ⌝ }
     ensures { λ r. ⌜ r ≡ minutes .0 * total .0 ⌝ }
 {
     minutes.0 * total.0
 }
 
-// The minutes of a post that counts, else none.
-fn counted(counts: bool, minutes: Minutes) -> Minutes
-    ensures { λ r. ⌜ r .0 ≡ cond counts (minutes .0) 0 ⌝ }
+// The minutes where the test holds, else none.
+fn minutes_if(test: bool, minutes: Minutes) -> Minutes
+    ensures { λ r. ⌜ r .0 ≡ cond test (minutes .0) 0 ⌝ }
 {
-    if counts { minutes } else { Minutes(0) }
+    if test { minutes } else { Minutes(0) }
 }
 
 // All of a post's parts, or what is left of the limit.
@@ -85,24 +92,16 @@ fn at_most(all: u64, limit: u64, taken: u64) -> u64
     }
 }
 
-// A number of parts times a yearly pay.
-fn parts_times(part: u64, pay: Pence) -> u64
-    requires { ⌜ (part ≤ 1625702400) × (pay .0 ≤ 1000000000) ⌝ }
-    ensures { λ r. ⌜ r ≡ part * pay .0 ⌝ }
-{
-    part * pay.0
-}
-
 // A post's pay for its parts: all of it for a post in full, else one rounded fraction.
 fn pay_for(x: Post, part: u64, total: Minutes) -> Pence
-    requires { ⌜ (postStands x ≡ true) × (part ≤ h x * total .0) × (0 < total .0) × (total .0 ≤ 161280) ⌝ }
-    ensures { λ r. ⌜ (r .0 ≡ rounded (part * p x) (h x * total .0)) × (r .0 ≤ 1000000000) ⌝ }
+    requires { ⌜ Stands x × (part ≤ h x * total .0) × (0 < total .0) × (total .0 ≤ mostMinutes) ⌝ }
+    ensures { λ r. ⌜ (r .0 ≡ rounded (part * p x) (h x * total .0)) × (r .0 ≤ highestPay) ⌝ }
 {
     let all = in_parts(x.contracted, total);
     if part == all {
         return x.pay;
     }
-    Pence(rounded(parts_times(part, x.pay), all))
+    Pence(scaled(part, x.pay.0, all))
 }
 
 impl YearPosts {
@@ -116,7 +115,7 @@ impl YearPosts {
             pay: Pence(0),
         };
         YearPosts {
-            list: [empty; 16],
+            list: [empty; MOST_POSTS],
             count: 0,
             minutes: Minutes(0),
             weighted: 0,
@@ -125,14 +124,14 @@ impl YearPosts {
     }
 
     // The refusal of a post after those of the year: 7, then 8, or 0.
-    pub fn refusal_of(self, x: Post) -> u64
+    fn refusal_of(self, x: Post) -> u64
         requires { ⌜ Held self ⌝ }
         ensures { λ r. ⌜ r ≡ postRefusal (postsOf self) x ⌝ }
     {
         if !stands(x) {
             return 7;
         }
-        if 16 <= self.count {
+        if MOST_POSTS <= self.count {
             return 7;
         }
         if !is_whole_time(x) {
@@ -145,7 +144,7 @@ impl YearPosts {
     }
 
     // The year that a post has joined at the end.
-    pub fn joined(self, x: Post) -> YearPosts
+    fn joined(self, x: Post) -> YearPosts
         requires { ⌜ Held self × (postRefusal (postsOf self) x ≡ 0) ⌝ }
         ensures { λ r. ⌜ r ≡ joinedBy self x ⌝ }
     {
@@ -154,7 +153,7 @@ impl YearPosts {
         list[at] = x;
         let minutes = Minutes(self.minutes.0 + x.contracted.0);
         let weighted = self.weighted + weighted_week(x.contracted, x.whole);
-        let whole = either(self.whole, is_whole_time(x));
+        let whole = any_whole_time(self.whole, x);
         YearPosts {
             list,
             count: at + 1,
@@ -162,6 +161,22 @@ impl YearPosts {
             weighted,
             whole,
         }
+    }
+
+    // Has a post join at the end: 7 and 8 refuse it.
+    pub fn join(self, x: Post) -> Changed
+        requires { ⌜ Held self ⌝ }
+        ensures { λ r. ⌜ r ≡ joining self x ⌝ }
+    {
+        let refusal = self.refusal_of(x);
+        if refusal != 0 {
+            return Changed {
+                year: self,
+                refusal,
+            };
+        }
+        let year = self.joined(x);
+        Changed { year, refusal }
     }
 
     // The minutes of the posts that go before the one at a place.
@@ -175,7 +190,7 @@ impl YearPosts {
         let mut i: usize = 0;
         while i < n {
             let y = self.list[i];
-            minutes.0 += counted(goes_before(x, i < at, y), y.contracted).0;
+            minutes.0 += minutes_if(goes_before(x, i < at, y), y.contracted).0;
             i += 1;
         }
         minutes
@@ -202,7 +217,7 @@ impl YearPosts {
     {
         let n = self.count;
         let total = self.minutes;
-        let mut parts = [0u64; 16];
+        let mut parts = [0u64; MOST_POSTS];
         let mut aggregate = Pence(0);
         let mut i: usize = 0;
         while i < n {

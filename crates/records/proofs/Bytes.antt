@@ -3,13 +3,14 @@ use Prim.Native.Nat.{ℕ, _%_}
 use mathlib.Core.List.{List}
 use mathlib.Core.Path.{_≡_, refl}
 use lib.ListN.{length}
+use Rattle.posts.specs.Limits.{bytesOfPost}
 use Rattle.posts.specs.Lent.{lentRefusal}
 use Rattle.posts.specs.Call.{postsIn, callRefusal, callAnswer, placesAfter}
 use Rattle.posts.proofs.Calling.{call-even}
 use Rattle.records.specs.Records.{recordsAnswer, recordsPlaces}
 
--- "8 bytes each": a length that is a multiple of 8 is that of whole posts
-module _ (bytes : List ℕ) (whole : length bytes % 8 ≡ 0) where
+-- "8 bytes each": a length that is a multiple of it is that of whole posts
+module _ (bytes : List ℕ) (whole : length bytes % bytesOfPost ≡ 0) where
   pub same-refusal : (places : ℕ) → callRefusal bytes places ≡ lentRefusal (postsIn bytes) places
   same-refusal places = call-even bytes places whole
 

@@ -4,14 +4,14 @@ use mathlib.Core.Path.{_≡_}
 use mathlib.Core.List.{List}
 use lib.ListN.{length}
 use Rattle.measures.specs.declared.Answer.{Answer}
-use Rattle.measures.specs.Answers.{amountOf, refusalOf, answerOf, numberUnless}
+use Rattle.measures.specs.Answers.{answerAmount, answerRefusal, answerWith, numberUnless}
 use Rattle.posts.specs.declared.Post.{Post}
 use Rattle.posts.specs.Posts.{aggregatePay}
 use Rattle.posts.specs.Lent.{lentRefusal, placesUnless}
 
 -- "accepted, it gives the aggregate"; "gives 0 for its number when refused"
 unfoldable pub recordsAnswer : List Post → ℕ → Answer
-recordsAnswer xs places = answerOf (lentRefusal xs places) (aggregatePay xs)
+recordsAnswer xs places = answerWith (lentRefusal xs places) (aggregatePay xs)
 
 -- each lent place after the call
 unfoldable pub recordsPlaces : List Post → List ℕ → List ℕ
@@ -20,6 +20,6 @@ recordsPlaces xs places = placesUnless (lentRefusal xs (length places)) xs place
 -- what the call on records promises, of the lent places before it and after it
 pub record RecordsGiven (xs : List Post) (before : List ℕ) (a : Answer) (after : List ℕ) : Type 0 where
   pub answer : a ≡ recordsAnswer xs (length before)
-  pub refusal : refusalOf a ≡ lentRefusal xs (length before)
-  pub number : amountOf a ≡ numberUnless (lentRefusal xs (length before)) (aggregatePay xs)
+  pub refusal : answerRefusal a ≡ lentRefusal xs (length before)
+  pub number : answerAmount a ≡ numberUnless (lentRefusal xs (length before)) (aggregatePay xs)
   pub places : after ≡ recordsPlaces xs before

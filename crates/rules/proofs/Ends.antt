@@ -1,19 +1,17 @@
 -- Lists by their end, as frames join them.
-use Prim.Native.Nat.{ℕ, _+_}
+use Prim.Native.Nat.{ℕ}
 use mathlib.Core.Path.{_≡_, refl, ap}
 use mathlib.Core.Bool.{Bool, true, false, cond}
 use mathlib.Core.List.{List, [], _∷_, _++_}
 use mathlib.Core.Option.{Option, none, some}
-use native.Mathlib.Omega.{arith}
 use lib.Dec.{eqb}
-use lib.ListN.{length}
 use Rattle.posts.specs.declared.Post.{Post}
-use Rattle.posts.specs.Posts.{aggregate, aggregatePay, parts}
+use Rattle.posts.specs.Posts.{aggregatePay}
 use Rattle.benefits.specs.Steps.{afterYear}
 use Rattle.frames.specs.declared.Factor.{Factor}
 use Rattle.frames.specs.declared.Debit.{Debit}
-use Rattle.rules.specs.Rules.{WorkedYear, any, lastOf, postsIn, openPosts, addPost}
-use Rattle.rules.specs.Working.{pensionFrom, pensionOf, ownParts, orElse, isFor, factorFor, debitFor}
+use Rattle.rules.specs.Rules.{WorkedYear, nonEmpty, lastOf, keptPosts, openPosts, addPost}
+use Rattle.rules.specs.Working.{pensionFrom, pensionOf, ownAggregates, orElse, isFor, factorFor, debitFor}
 
 -- a list is empty, or it has a last element
 pub data Ended {A : Type 0} : List A → Type 0 where
@@ -34,13 +32,9 @@ last-end [] x = refl
 last-end (y ∷ []) x = refl
 last-end (y ∷ z ∷ ys) x = last-end (z ∷ ys) x
 
-pub any-end : {A : Type 0} (xs : List A) (x : A) → any (xs ++ x ∷ []) ≡ true
-any-end [] x = refl
-any-end (y ∷ ys) x = refl
-
-pub length-end : {A : Type 0} (xs : List A) (x : A) → length (xs ++ x ∷ []) ≡ length xs + 1
-length-end [] x = refl
-length-end (y ∷ ys) x = omega (arith, length-end ys x)
+pub nonempty-end : {A : Type 0} (xs : List A) (x : A) → nonEmpty (xs ++ x ∷ []) ≡ true
+nonempty-end [] x = refl
+nonempty-end (y ∷ ys) x = refl
 
 -- all but the last
 unfoldable pub allButLast : {A : Type 0} → List A → List A
@@ -68,14 +62,14 @@ add-end (z ∷ u ∷ ys) y x = ap (λ (l : List WorkedYear). z ∷ l) (add-end (
 
 pub open-end : (ys : List WorkedYear) (y : WorkedYear) → openPosts (ys ++ y ∷ []) ≡ y .posts
 unfolding openPosts
-open-end ys y = ap postsIn (last-end ys y)
+open-end ys y = ap keptPosts (last-end ys y)
 
-pension-from-end : (before : ℕ) (ys : List WorkedYear) (y : WorkedYear) → pensionFrom before (ys ++ y ∷ []) (ownParts (ys ++ y ∷ [])) ≡ afterYear (pensionFrom before ys (ownParts ys)) (y .year .revaluation) (aggregatePay (y .posts))
-unfolding pensionFrom aggregatePay
+pension-from-end : (before : ℕ) (ys : List WorkedYear) (y : WorkedYear) → pensionFrom before (ys ++ y ∷ []) (ownAggregates (ys ++ y ∷ [])) ≡ afterYear (pensionFrom before ys (ownAggregates ys)) (y .year .revaluation) (aggregatePay (y .posts))
+unfolding pensionFrom
 pension-from-end before [] y = refl
-pension-from-end before (z ∷ ys) y = pension-from-end (afterYear before (z .year .revaluation) (aggregate (z .posts) (parts (z .posts)))) ys y
+pension-from-end before (z ∷ ys) y = pension-from-end (afterYear before (z .year .revaluation) (aggregatePay (z .posts))) ys y
 
-pub pension-end : (ys : List WorkedYear) (y : WorkedYear) → pensionOf (ys ++ y ∷ []) (ownParts (ys ++ y ∷ [])) ≡ afterYear (pensionOf ys (ownParts ys)) (y .year .revaluation) (aggregatePay (y .posts))
+pub pension-end : (ys : List WorkedYear) (y : WorkedYear) → pensionOf (ys ++ y ∷ []) (ownAggregates (ys ++ y ∷ [])) ≡ afterYear (pensionOf ys (ownAggregates ys)) (y .year .revaluation) (aggregatePay (y .posts))
 unfolding pensionOf
 pension-end ys y = pension-from-end 0 ys y
 
@@ -100,3 +94,13 @@ unfolding debitFor
 debit-end scheme [] d = or-none (eqb (d .scheme) scheme) d
 debit-end scheme (e ∷ ds) d =
     rw (debit-end scheme ds d) (or-found (eqb (d .scheme) scheme) d (debitFor scheme ds) (cond (eqb (e .scheme) scheme) (some e) none))
+
+-- what is found was kept
+module _ {A : Type 0} (P : Option A → Type 0) (o : Option A) (a : A) (found : P o) (kept : P (some a)) (nothing : P none) where
+  pub or-else : (t : Bool) → P (orElse o (cond t (some a) none))
+  or-else t = by o t found
+    where
+      by : (o : Option A) (t : Bool) → P o → P (orElse o (cond t (some a) none))
+      by none true p = kept
+      by none false p = nothing
+      by (some b) t p = p

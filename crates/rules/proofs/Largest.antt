@@ -1,20 +1,21 @@
 -- Demand 3 over the frames kept: no rival working gives more than the amounts of the steps.
 use Prim.Native.Nat.{ℕ, _≤_}
-use mathlib.Core.Path.{_≡_, refl, ap₂, subst}
+use mathlib.Core.Path.{_≡_, refl, _∙_, ap, ap₂, subst}
 use mathlib.Core.Bool.{Bool, true, false, _&&_, cond}
 use mathlib.Core.List.{List, [], _∷_}
 use mathlib.Core.Option.{Option, none, some}
 use native.Mathlib.Nat.{le-refl}
 use native.Mathlib.Omega.{arith}
 use lib.Dec.{leb, eqb}
-use lib.IntN.{ℤ, _+ℤ_}
+use lib.IntN.{ℤ, pos, _+ℤ_, _-ℤ_}
 use lib.Signed.{_≤ℤ_}
 use borrow.Author.Tests.{leb-true, eqb-true}
-use Rattle.measures.specs.Refusals.{unless, first}
-use Rattle.measures.proofs.Tests.{passed, neither, and-left, and-right}
-use Rattle.calendar.proofs.CountedMonths.{less}
-use Rattle.posts.specs.Posts.{aggregatePay}
-use Rattle.posts.proofs.Aggregate.{Worked, optimal, parts-allowed}
+use Rattle.measures.specs.Lists.{All}
+use Rattle.measures.specs.Refusals.{unless, firstRefusal}
+use Rattle.measures.proofs.Tests.{clash, passed, neither, and-left, and-right}
+use Rattle.measures.proofs.Integers.{less, less-mono, less-both}
+use Rattle.posts.specs.Posts.{HasMinutes, aggregatePay}
+use Rattle.posts.proofs.Aggregate.{optimal, parts-allowed}
 use Rattle.benefits.specs.declared.FinalPay.{FinalPay}
 use Rattle.benefits.specs.Steps.{finalPay, finalYear, reduced, lumpDebit}
 use Rattle.benefits.proofs.Monotone.{afterYear-mono, sectionPension-mono, lumpSum-mono, reduced-mono}
@@ -22,22 +23,26 @@ use Rattle.benefits.proofs.Highest.{final-highest, final-latest}
 use Rattle.rules.specs.declared.Amounts.{Amounts}
 use Rattle.rules.specs.declared.Outcome.{Outcome}
 use Rattle.rules.specs.Rules.{WorkedYear, Frames, begun, hasSection}
-use Rattle.rules.specs.Working.{early2015, early1995, pensionFrom, pensionOf, ownParts, candidates, ownPay, pension1995, pensionFactor, lumpFactor, reducedIf, factor2015, factor1995, gross2015, gross1995, grossLumpSum, debit2015, debit1995, payThere, factorsThere, debitsFit, closingOf, amountsOf, workedUnless, answerOf}
+use Rattle.rules.specs.Working.{early2015, early1995, pensionFrom, pensionOf, ownAggregates, ownParts, rivalAggregates, candidates, ownPay, pension1995, pensionFactor, lumpFactor, reducedIf, factor2015, factor1995, gross2015, gross1995, grossLumpSum, debit2015, debit1995, payThere, factorsThere, debitsFit, closingOf, amountsOf, workedUnless, answerOf}
 use Rattle.rules.specs.Rivals.{Choice, RivalParts, noYears, year, Picked, none as noPick, here, later, Allowed, net2015, net1995, netLumpSum, Given, AtMost, LargestOf}
-use Rattle.rules.proofs.Integers.{less-mono, less-both}
 
--- every post of every year has contracted minutes
-abbrev pub AllWorked : List WorkedYear → Type 0
-AllWorked [] = Unit {0}
-AllWorked (y ∷ ys) = Worked (y .posts) × AllWorked ys
+-- every post of a year has contracted minutes
+abbrev pub WorkedPosts : WorkedYear → Type 0
+WorkedPosts y = All HasMinutes (y .posts)
 
 -- ---- the steps rise with the amounts
 
-pension-mono : {a b : ℕ} (ys : List WorkedYear) (qs : List (List ℕ)) → AllWorked ys → RivalParts ys qs → a ≤ b → pensionFrom a ys qs ≤ pensionFrom b ys (ownParts ys)
+pension-mono : {a b : ℕ} (ys : List WorkedYear) (qs : List (List ℕ)) → All WorkedPosts ys → RivalParts ys qs → a ≤ b → pensionFrom a ys (rivalAggregates ys qs) ≤ pensionFrom b ys (ownAggregates ys)
 unfolding pensionFrom aggregatePay
 pension-mono [] [] w noYears g = g
 pension-mono (y ∷ ys) (q ∷ qs) w (year r rs) g =
     pension-mono ys qs (w .1) rs (afterYear-mono g (le-refl (y .year .revaluation)) (optimal (y .posts) q (w .0) r))
+
+-- our aggregates are those of our own parts
+own-aggregates : (ys : List WorkedYear) → rivalAggregates ys (ownParts ys) ≡ ownAggregates ys
+unfolding aggregatePay
+own-aggregates [] = refl
+own-aggregates (y ∷ ys) = ap (λ (l : List ℕ). aggregatePay (y .posts) ∷ l) (own-aggregates ys)
 
 reducedIf-mono : (months factor : ℕ) {a b : ℕ} → a ≤ b → reducedIf months factor a ≤ reducedIf months factor b
 unfolding reducedIf
@@ -67,7 +72,7 @@ pay-most (some f) pay (later (later here)) = final-highest f 1
 
 -- ---- our own choice is allowed
 
-own-parts : (ys : List WorkedYear) → AllWorked ys → RivalParts ys (ownParts ys)
+own-parts : (ys : List WorkedYear) → All WorkedPosts ys → RivalParts ys (ownParts ys)
 own-parts [] w = noYears
 own-parts (y ∷ ys) w = year (parts-allowed (y .posts) (w .0)) (own-parts ys (w .1))
 
@@ -84,16 +89,16 @@ own-pay (some f) = subst (Picked (candidates (some f))) (final-latest f .highest
 -- ---- a closing without refusal has every debit covered
 
 record Covered (k : Frames) : Type 0 where
-  of2015 : debit2015 k ≤ gross2015 k (ownParts (k .years))
+  of2015 : debit2015 k ≤ gross2015 k (ownAggregates (k .years))
   of1995 : debit1995 k ≤ gross1995 k (ownPay (k .finalPay))
   ofLumpSum : lumpDebit (debit1995 k) ≤ grossLumpSum k (ownPay (k .finalPay))
 
 covered : (k : Frames) → closingOf (begun k) ≡ 0 → Covered k
 unfolding closingOf debitsFit
 covered k e =
-    let rest = neither (unless (payThere k) 12) (first (unless (factorsThere k) 13) (unless (debitsFit k) 14)) e .1 in
+    let rest = neither (unless (payThere k) 12) (firstRefusal (unless (factorsThere k) 13) (unless (debitsFit k) 14)) e .1 in
     let t = passed (debitsFit k) 14 (omega arith) (neither (unless (factorsThere k) 13) (unless (debitsFit k) 14) rest .1) in
-    let one = leb (debit2015 k) (gross2015 k (ownParts (k .years))) in
+    let one = leb (debit2015 k) (gross2015 k (ownAggregates (k .years))) in
     let two = leb (debit1995 k) (gross1995 k (ownPay (k .finalPay))) in
     let three = leb (lumpDebit (debit1995 k)) (grossLumpSum k (ownPay (k .finalPay))) in
     record {
@@ -112,28 +117,28 @@ answered k a e = by (eqb (closingOf (begun k)) 0) refl e
   where
     by : (t : Bool) → eqb (closingOf (begun k)) 0 ≡ t → cond t (Outcome.Worked (amountsOf k)) (Outcome.Refused (record { number = closingOf (begun k); line = 0 })) ≡ Outcome.Worked a → Answered k a
     by true q e = record { unrefused = eqb-true _ 0 q; is = cc }
-    by false q e = absurd (let z : _≡_ {A = ℕ} 0 1 = cc in let y : ⊥ = omega arith in y)
+    by false q e = clash (cc)
 
 -- ---- the amounts given are the largest
 
-module _ (k : Frames) (w : AllWorked (k .years)) (f : Covered k) where
+module _ (k : Frames) (w : All WorkedPosts (k .years)) (f : Covered k) where
   gives : Given k (amountsOf k)
   unfolding amountsOf net2015 net1995 netLumpSum
   gives =
       record {
         allowed = record { parts = own-parts (k .years) w; pay = own-pay (k .finalPay) };
-        pension2015 = less _ _ (f .of2015);
+        pension2015 = ap (λ (l : List ℕ). pos (gross2015 k l) -ℤ pos (debit2015 k)) (own-aggregates (k .years)) ∙ less _ _ (f .of2015);
         pension1995 = less _ _ (f .of1995);
         lumpSum = less _ _ (f .ofLumpSum);
         charge = refl;
       }
 
   at-most : (choice : Choice) → Allowed k choice → AtMost k (amountsOf k) choice
-  unfolding net2015 net1995 netLumpSum gross2015 gross1995 grossLumpSum pensionOf
+  unfolding amountsOf net2015 net1995 netLumpSum gross2015 gross1995 grossLumpSum pensionOf
   at-most choice r =
       record {
         pensions =
-            subst (λ (z : ℤ). (net2015 k choice +ℤ net1995 k choice) ≤ℤ z) (ap₂ _+ℤ_ (gives .pension2015) (gives .pension1995))
+            subst (λ (z : ℤ). (net2015 k choice +ℤ net1995 k choice) ≤ℤ z) (ap₂ _+ℤ_ (less _ _ (f .of2015)) (gives .pension1995))
             (less-both _ _ (debit2015 k) _ _ (debit1995 k)
             (reducedIf-mono (early2015 (k .member)) (pensionFactor (factor2015 k)) (pension-mono (k .years) (choice .parts) w (r .parts) (le-refl 0)))
             (if-mono (hasSection k) (reducedIf-mono (early1995 (k .member)) (pensionFactor (factor1995 k)) (pension1995-mono (k .finalPay) pays))));
@@ -146,7 +151,7 @@ module _ (k : Frames) (w : AllWorked (k .years)) (f : Covered k) where
       pays : choice .pay ≤ ownPay (k .finalPay)
       pays = pay-most (k .finalPay) (choice .pay) (r .pay)
 
-pub largest-kept : (k : Frames) (a : Amounts) → AllWorked (k .years) → answerOf (begun k) ≡ Outcome.Worked a → LargestOf k a
+pub largest-kept : (k : Frames) (a : Amounts) → All WorkedPosts (k .years) → answerOf (begun k) ≡ Outcome.Worked a → LargestOf k a
 largest-kept k a w e =
     let g = answered k a e in
     let f = covered k (g .unrefused) in

@@ -1,4 +1,4 @@
 pub mod Ends
-pub mod Integers
 pub mod Largest
 pub mod Example
+pub mod Starred

@@ -8,7 +8,7 @@ use Rattle.posts.specs.Posts.{Rival}
 use Rattle.benefits.specs.Steps.{lumpDebit}
 use Rattle.rules.specs.declared.Amounts.{Amounts}
 use Rattle.rules.specs.Rules.{WorkedYear, Frames, Kept, nothing, begun}
-use Rattle.rules.specs.Working.{ownParts, ownPay, candidates, gross2015, gross1995, grossLumpSum, debit2015, debit1995, chargeOf}
+use Rattle.rules.specs.Working.{ownParts, rivalAggregates, ownPay, candidates, gross2015, gross1995, grossLumpSum, debit2015, debit1995, chargeOf}
 
 -- what a working picks: the parts of each year's posts, and the final pay
 pub record Choice : Type 0 where
@@ -37,7 +37,7 @@ ownChoice k = record { parts = ownParts (k .years); pay = ownPay (k .finalPay) }
 
 -- Its net 2015 pension: "Then it goes through the same steps with its own parts and final pay, [..] the factors and debits the same; a net below zero stays so."
 unfoldable pub net2015 : Frames → Choice → ℤ
-net2015 k choice = pos (gross2015 k (choice .parts)) -ℤ pos (debit2015 k)
+net2015 k choice = pos (gross2015 k (rivalAggregates (k .years) (choice .parts))) -ℤ pos (debit2015 k)
 
 -- its net 1995 pension
 unfoldable pub net1995 : Frames → Choice → ℤ
@@ -56,16 +56,24 @@ pub record Given (k : Frames) (a : Amounts) : Type 0 where
   pub charge : a .charge .0 ≡ chargeOf (k .finalPay)
 
 -- "Its net 2015 plus net 1995 pension is at most the same sum of the amounts the case gives, [..] and its net lump sum at most the one given."
-pub record AtMost (k : Frames) (a : Amounts) (choice : Choice) : Type 0 where
-  pub pensions : (net2015 k choice +ℤ net1995 k choice) ≤ℤ (pos (a .«net_2015» .0) +ℤ pos (a .«net_1995» .0))
-  pub lumpSum : netLumpSum k choice ≤ℤ pos (a .«net_lump_sum» .0)
+pub record NetsAtMost (of2015 of1995 ofLumpSum : ℤ) (a : Amounts) : Type 0 where
+  pub pensions : (of2015 +ℤ of1995) ≤ℤ (pos (a .«net_2015» .0) +ℤ pos (a .«net_1995» .0))
+  pub lumpSum : ofLumpSum ≤ℤ pos (a .«net_lump_sum» .0)
+
+-- of the nets of a choice
+abbrev pub AtMost : Frames → Amounts → Choice → Type 0
+AtMost k a choice = NetsAtMost (net2015 k choice) (net1995 k choice) (netLumpSum k choice) a
 
 -- the amounts given are those of the steps, and no rival has more
 pub record LargestOf (k : Frames) (a : Amounts) : Type 0 where
   pub given : Given k a
   pub rivals : (choice : Choice) → Allowed k choice → AtMost k a choice
 
--- of the frames kept; without a frame no amounts are given
+-- without a frame no amounts are given, so that none are the largest
+abbrev pub LargestOfNone : Amounts → Type 0
+LargestOfNone a = ⊥
+
+-- of the frames kept
 abbrev pub Largest : Kept → Amounts → Type 0
-Largest nothing a = ⊥
+Largest nothing a = LargestOfNone a
 Largest (begun k) a = LargestOf k a

@@ -1,11 +1,11 @@
 -- The frames kept, and when a next frame is refused after them: "Order", "When each part declines", the running case.
 use Prim.Native.Nat.{ℕ, _+_}
-use mathlib.Core.Bool.{Bool, true, false, _&&_, _||_, not, cond}
+use mathlib.Core.Bool.{Bool, true, false, _&&_, _||_, not}
 use mathlib.Core.List.{List, [], _∷_, _++_}
 use mathlib.Core.Option.{Option, none, some}
 use lib.Dec.{ltb, eqb}
 use lib.ListN.{length}
-use Rattle.measures.specs.Refusals.{unless, first}
+use Rattle.measures.specs.Refusals.{unless, firstRefusal}
 use Rattle.measures.specs.Tries.{tried, after, meant}
 use Rattle.posts.specs.declared.Post.{Post}
 use Rattle.posts.specs.Refusals.{postRefusal}
@@ -48,9 +48,9 @@ given none = false
 given (some x) = true
 
 -- whether there are any
-abbrev pub any : {A : Type 0} → List A → Bool
-any [] = false
-any (x ∷ xs) = true
+abbrev pub nonEmpty : {A : Type 0} → List A → Bool
+nonEmpty [] = false
+nonEmpty (x ∷ xs) = true
 
 -- the last of a list: "the previous 05", "the previous 06", the year before
 unfoldable pub lastOf : {A : Type 0} → List A → Option A
@@ -62,15 +62,20 @@ lastOf (x ∷ y ∷ xs) = lastOf (y ∷ xs)
 
 -- no 06, 05 or 04 is kept yet
 unfoldable pub beforePay : Frames → Bool
-beforePay k = not (any (k .debits)) && not (any (k .factors)) && not (given (k .finalPay))
+beforePay k = not (nonEmpty (k .debits)) && not (nonEmpty (k .factors)) && not (given (k .finalPay))
 
 -- "section 1 (0 none, 1 the 1995)"
 unfoldable pub hasSection : Frames → Bool
 hasSection k = eqb (k .member .section) 1
 
--- a frame that is in its place is tried for its fields
-abbrev pub placed : Bool → ℕ → ℕ
-placed inPlace fields = cond inPlace fields 4
+-- whether a frame stands in its place after those kept
+unfoldable pub inOrder : Frames → Frame → Bool
+inOrder k (Frame.Member m) = false
+inOrder k (Frame.Year y) = beforePay k
+inOrder k (Frame.Post x) = beforePay k && nonEmpty (k .years)
+inOrder k (Frame.FinalPay f) = beforePay k && hasSection k
+inOrder k (Frame.Factor f) = not (nonEmpty (k .debits))
+inOrder k (Frame.Debit d) = true
 
 -- ---- the fields of a frame, after the frames kept
 
@@ -79,18 +84,22 @@ unfoldable pub isNext : Option WorkedYear → ℕ → Bool
 isNext none april = true
 isNext (some y) april = eqb april (y .year .april + 1)
 
+-- the years that a case has at most
+abbrev pub mostYears : ℕ
+mostYears = 50
+
 -- "6, an April year outside 2015 to 2100, a later one not the next, revaluation above 2,000, a 51st year."
 unfoldable pub yearRefusal : List WorkedYear → Year → ℕ
-yearRefusal years y = unless (yearStands y && isNext (lastOf years) (y .april) && ltb (length years) 50) 6
+yearRefusal years y = unless (yearStands y && isNext (lastOf years) (y .april) && ltb (length years) mostYears) 6
 
 -- the posts kept of the year that a next 03 joins
-abbrev pub postsIn : Option WorkedYear → List Post
-postsIn none = []
-postsIn (some y) = y .posts
+abbrev pub keptPosts : Option WorkedYear → List Post
+keptPosts none = []
+keptPosts (some y) = y .posts
 
 -- of the last year
 unfoldable pub openPosts : List WorkedYear → List Post
-openPosts years = postsIn (lastOf years)
+openPosts years = keptPosts (lastOf years)
 
 -- "10, [..] not after the previous 05 by scheme then months."
 unfoldable pub afterFactor : Option Factor → Factor → Bool
@@ -102,9 +111,20 @@ unfoldable pub afterDebit : Option Debit → Debit → Bool
 afterDebit none d = true
 afterDebit (some e) d = ltb (e .scheme) (d .scheme)
 
+-- the refusal of a frame's fields, by its kind
+unfoldable pub fieldsRefusal : Frames → Frame → ℕ
+fieldsRefusal k (Frame.Member m) = memberRefusal m
+fieldsRefusal k (Frame.Year y) = yearRefusal (k .years) y
+fieldsRefusal k (Frame.Post x) = postRefusal (openPosts (k .years)) x
+fieldsRefusal k (Frame.FinalPay f) = finalPayRefusal f
+fieldsRefusal k (Frame.Factor f) =
+    firstRefusal (factorRefusal f (k .member .section)) (unless (afterFactor (lastOf (k .factors)) f) 10)
+fieldsRefusal k (Frame.Debit d) =
+    firstRefusal (debitRefusal d (k .member .section)) (unless (afterDebit (lastOf (k .debits)) d) 11)
+
 -- ---- the refusal of a frame
 
--- "A frame is tried for 3, 4, fields": 4, then the fields, after the frames kept; 0 for none
+-- "A frame is tried for 3, 4, fields": 4, then the fields, after the frames kept; 0 for none. The first is an 01.
 unfoldable pub refusalOf : Kept → Frame → ℕ
 refusalOf nothing (Frame.Member m) = memberRefusal m
 refusalOf nothing (Frame.Year y) = 4
@@ -112,16 +132,29 @@ refusalOf nothing (Frame.Post x) = 4
 refusalOf nothing (Frame.FinalPay f) = 4
 refusalOf nothing (Frame.Factor f) = 4
 refusalOf nothing (Frame.Debit d) = 4
-refusalOf (begun k) (Frame.Member m) = 4
-refusalOf (begun k) (Frame.Year y) = placed (beforePay k) (yearRefusal (k .years) y)
-refusalOf (begun k) (Frame.Post x) = placed (beforePay k && any (k .years)) (postRefusal (openPosts (k .years)) x)
-refusalOf (begun k) (Frame.FinalPay f) = placed (beforePay k && hasSection k) (finalPayRefusal f)
-refusalOf (begun k) (Frame.Factor f) =
-    placed (not (any (k .debits))) (first (factorRefusal f (k .member .section)) (unless (afterFactor (lastOf (k .factors)) f) 10))
-refusalOf (begun k) (Frame.Debit d) =
-    first (debitRefusal d (k .member .section)) (unless (afterDebit (lastOf (k .debits)) d) 11)
+refusalOf (begun k) f = firstRefusal (unless (inOrder k f) 4) (fieldsRefusal k f)
 
 -- ---- a frame without refusal joins those kept
+
+-- the frames kept with other years
+abbrev pub withYears : Frames → List WorkedYear → Frames
+withYears k years = record { member = k .member; years = years; finalPay = k .finalPay; factors = k .factors; debits = k .debits }
+
+-- with a final pay
+abbrev pub withFinalPay : Frames → FinalPay → Frames
+withFinalPay k f = record { member = k .member; years = k .years; finalPay = some f; factors = k .factors; debits = k .debits }
+
+-- with other factors
+abbrev pub withFactors : Frames → List Factor → Frames
+withFactors k factors = record { member = k .member; years = k .years; finalPay = k .finalPay; factors = factors; debits = k .debits }
+
+-- with other debits
+abbrev pub withDebits : Frames → List Debit → Frames
+withDebits k debits = record { member = k .member; years = k .years; finalPay = k .finalPay; factors = k .factors; debits = debits }
+
+-- an 02 without 03s yet
+abbrev pub newYear : Year → WorkedYear
+newYear y = record { year = y; posts = [] }
 
 -- an 03 joins the last year
 unfoldable pub addPost : List WorkedYear → Post → List WorkedYear
@@ -129,7 +162,7 @@ addPost [] x = []
 addPost (y ∷ []) x = record { year = y .year; posts = y .posts ++ x ∷ [] } ∷ []
 addPost (y ∷ z ∷ ys) x = y ∷ addPost (z ∷ ys) x
 
--- the frames kept with one more
+-- the frames kept with one more; before the 01 nothing is kept
 unfoldable pub keep : Kept → Frame → Kept
 keep nothing (Frame.Member m) = begun (record { member = m; years = []; finalPay = none; factors = []; debits = [] })
 keep nothing (Frame.Year y) = nothing
@@ -138,16 +171,11 @@ keep nothing (Frame.FinalPay f) = nothing
 keep nothing (Frame.Factor f) = nothing
 keep nothing (Frame.Debit d) = nothing
 keep (begun k) (Frame.Member m) = begun k
-keep (begun k) (Frame.Year y) =
-    begun (record { member = k .member; years = k .years ++ record { year = y; posts = [] } ∷ []; finalPay = k .finalPay; factors = k .factors; debits = k .debits })
-keep (begun k) (Frame.Post x) =
-    begun (record { member = k .member; years = addPost (k .years) x; finalPay = k .finalPay; factors = k .factors; debits = k .debits })
-keep (begun k) (Frame.FinalPay f) =
-    begun (record { member = k .member; years = k .years; finalPay = some f; factors = k .factors; debits = k .debits })
-keep (begun k) (Frame.Factor f) =
-    begun (record { member = k .member; years = k .years; finalPay = k .finalPay; factors = k .factors ++ f ∷ []; debits = k .debits })
-keep (begun k) (Frame.Debit d) =
-    begun (record { member = k .member; years = k .years; finalPay = k .finalPay; factors = k .factors; debits = k .debits ++ d ∷ [] })
+keep (begun k) (Frame.Year y) = begun (withYears k (k .years ++ newYear y ∷ []))
+keep (begun k) (Frame.Post x) = begun (withYears k (addPost (k .years) x))
+keep (begun k) (Frame.FinalPay f) = begun (withFinalPay k f)
+keep (begun k) (Frame.Factor f) = begun (withFactors k (k .factors ++ f ∷ []))
+keep (begun k) (Frame.Debit d) = begun (withDebits k (k .debits ++ d ∷ []))
 
 -- ---- frames as they are offered
 

@@ -5,9 +5,9 @@ use mathlib.Core.List.{List, [], _∷_}
 use mathlib.Core.Option.{Option, none, some}
 use lib.Dec.{leb, eqb}
 use lib.IntN.{ℤ, pos, negsuc}
-use Rattle.measures.specs.Refusals.{unless, first}
+use Rattle.measures.specs.Refusals.{unless, firstRefusal}
 use Rattle.calendar.specs.Dates.{monthsEarly}
-use Rattle.posts.specs.Posts.{aggregate, parts}
+use Rattle.posts.specs.Posts.{aggregate, aggregatePay, parts}
 use Rattle.benefits.specs.declared.FinalPay.{FinalPay}
 use Rattle.benefits.specs.Steps.{afterYear, finalPay, sectionPension, lumpSum, reduced, pensionDebit, lumpDebit, charge}
 use Rattle.frames.specs.declared.Member.{Member}
@@ -34,28 +34,39 @@ sectionPensionAge = 60
 
 -- "Pension age is the member's for the 2015 Scheme"
 abbrev pub early2015 : Member → ℕ
-early2015 m = early m (m .age)
+early2015 m = early m (m .«pension_age»)
 
 -- "60 for the 1995 Section"
 abbrev pub early1995 : Member → ℕ
 early1995 m = early m sectionPensionAge
 
--- ---- Years, with the parts of each year's posts
+-- ---- Years, with the aggregate of each
 
 -- "For each year in order it becomes rounded(pension × (10,000 + r)/10,000) + rounded(aggregate/54)"
-unfoldable pub pensionFrom : ℕ → List WorkedYear → List (List ℕ) → ℕ
-pensionFrom pension [] qs = pension
+unfoldable pub pensionFrom : ℕ → List WorkedYear → List ℕ → ℕ
+pensionFrom pension [] aggregates = pension
 pensionFrom pension (y ∷ ys) [] = pension
-pensionFrom pension (y ∷ ys) (q ∷ qs) = pensionFrom (afterYear pension (y .year .revaluation) (aggregate (y .posts) q)) ys qs
+pensionFrom pension (y ∷ ys) (a ∷ later) = pensionFrom (afterYear pension (y .year .revaluation) a) ys later
 
 -- "The pension starts at 0."
-unfoldable pub pensionOf : List WorkedYear → List (List ℕ) → ℕ
-pensionOf years qs = pensionFrom 0 years qs
+unfoldable pub pensionOf : List WorkedYear → List ℕ → ℕ
+pensionOf years aggregates = pensionFrom 0 years aggregates
 
--- ours: the parts that the posts step gives
+-- ours: the aggregates of the parts that the posts step gives
+abbrev pub ownAggregates : List WorkedYear → List ℕ
+ownAggregates [] = []
+ownAggregates (y ∷ ys) = aggregatePay (y .posts) ∷ ownAggregates ys
+
+-- these parts
 abbrev pub ownParts : List WorkedYear → List (List ℕ)
 ownParts [] = []
 ownParts (y ∷ ys) = parts (y .posts) ∷ ownParts ys
+
+-- a rival's: the aggregates of the parts that it picks
+abbrev pub rivalAggregates : List WorkedYear → List (List ℕ) → List ℕ
+rivalAggregates [] qs = []
+rivalAggregates (y ∷ ys) [] = []
+rivalAggregates (y ∷ ys) (q ∷ qs) = aggregate (y .posts) q ∷ rivalAggregates ys qs
 
 -- ---- Final pay
 
@@ -112,9 +123,9 @@ factor2015 k = factorFor 0 (early2015 (k .member)) (k .factors)
 abbrev pub factor1995 : Frames → Option Factor
 factor1995 k = factorFor 1 (early1995 (k .member)) (k .factors)
 
--- the 2015 pension before its debit, of any parts
-unfoldable pub gross2015 : Frames → List (List ℕ) → ℕ
-gross2015 k qs = reducedIf (early2015 (k .member)) (pensionFactor (factor2015 k)) (pensionOf (k .years) qs)
+-- the 2015 pension before its debit, of any aggregates
+unfoldable pub gross2015 : Frames → List ℕ → ℕ
+gross2015 k aggregates = reducedIf (early2015 (k .member)) (pensionFactor (factor2015 k)) (pensionOf (k .years) aggregates)
 
 -- the 1995 pension before its debit, of any final pay; "without a section [..] the 1995 nets are 0"
 unfoldable pub gross1995 : Frames → ℕ → ℕ
@@ -172,14 +183,14 @@ factorsThere k =
 -- "14, a debit above what it is taken from"
 unfoldable pub debitsFit : Frames → Bool
 debitsFit k =
-    leb (debit2015 k) (gross2015 k (ownParts (k .years)))
+    leb (debit2015 k) (gross2015 k (ownAggregates (k .years)))
     && leb (debit1995 k) (gross1995 k (ownPay (k .finalPay)))
     && leb (lumpDebit (debit1995 k)) (grossLumpSum k (ownPay (k .finalPay)))
 
 -- "closing for 4 (no 01), 12, 13, 14": the refusal, 0 for none
 unfoldable pub closingOf : Kept → ℕ
 closingOf nothing = 4
-closingOf (begun k) = first (unless (payThere k) 12) (first (unless (factorsThere k) 13) (unless (debitsFit k) 14))
+closingOf (begun k) = firstRefusal (unless (payThere k) 12) (firstRefusal (unless (factorsThere k) 13) (unless (debitsFit k) 14))
 
 -- ---- The amounts given
 
@@ -187,7 +198,7 @@ closingOf (begun k) = first (unless (payThere k) 12) (first (unless (factorsTher
 unfoldable pub amountsOf : Frames → Amounts
 amountsOf k =
     record {
-      «net_2015» = record { 0 = gross2015 k (ownParts (k .years)) - debit2015 k };
+      «net_2015» = record { 0 = gross2015 k (ownAggregates (k .years)) - debit2015 k };
       «net_1995» = record { 0 = gross1995 k (ownPay (k .finalPay)) - debit1995 k };
       «net_lump_sum» = record { 0 = grossLumpSum k (ownPay (k .finalPay)) - lumpDebit (debit1995 k) };
       charge = record { 0 = chargeOf (k .finalPay) };

@@ -9,6 +9,13 @@ pub struct Amounts {
     pub charge: Pence,
 }
 
+// An amount for each benefit: the pensions of both schemes and the lump sum.
+pub struct SchemeAmounts {
+    pub pension2015: Pence,
+    pub pension1995: Pence,
+    pub lump_sum: Pence,
+}
+
 // A refusal: its number, and the line of a text, 0 for no line.
 pub struct Refusal {
     pub number: u64,

@@ -17,12 +17,13 @@ use Rattle.cases.specs.Running.{IsCase, TakenFrom}
 use Rattle.input.specs.Script.{EndAt, PutIn, bytesSpelled, wordsOf, fromMark}
 use Rattle.input.proofs.Putting.{put-start}
 use Rattle.input.proofs.Words.{next-word, no-word, from-mark}
-use Rattle.running.specs.Offered.{frameOfWord, withWords, withWord, afterLine, HandedOn}
+use Rattle.running.specs.Offered.{bufferBytes, frameOfWord, withWords, withWord, afterLine, HandedOn}
 
-pub handed-one : {c : Case} (word : List ℕ) {buffer bytes : List ℕ} (n : ℕ) {t : Taken} → PutIn (bytesSpelled word) buffer bytes n → 4096 ≡ length buffer → TakenFrom c (decoded (take n bytes)) t → HandedOn c (withWord word) (t .case)
+-- one word is offered
+pub handed-one : {c : Case} (word : List ℕ) {buffer bytes : List ℕ} (n : ℕ) {t : Taken} → PutIn (bytesSpelled word) buffer bytes n → bufferBytes ≡ length buffer → TakenFrom c (decoded (take n bytes)) t → HandedOn c (withWord word) (t .case)
 unfolding withWord frameOfWord
 handed-one word {bytes = bytes} n p room t =
-    let same : take n bytes ≡ take 4096 (bytesSpelled word) =
+    let same : take n bytes ≡ take bufferBytes (bytesSpelled word) =
     put-start p ∙ ap (λ (k : ℕ). take k (bytesSpelled word)) (sym room) in
     record { isCase = t .isCase; after = λ frames e. rw (← same) (t .after frames e .case) }
 
@@ -33,11 +34,13 @@ pub record Offering (case : Case) (words : List ℕ) (at : ℕ) (r : Case) : Typ
   pub isCase : IsCase r
   pub after : (frames : List Decoded) → case ≡ afterAll frames → r ≡ afterAll (frames ++ done)
 
+-- before the first word
 pub offered-none : (c : Case) (words : List ℕ) → IsCase c → Offering c words 0 c
 offered-none c words is =
     record { done = []; whole = refl; isCase = is; after = λ frames e. rw append-nil e }
 
 module _ {case r : Case} {words : List ℕ} {at : ℕ} (o : Offering case words at r) where
+  -- one word more
   pub offered-more : {next : Case} (end : ℕ) → at < length words → EndAt words (at + 1) 32 end → HandedOn r (withWord (take (end - (at + 1)) (drop (at + 1) words))) next → Offering case words end next
   unfolding withWord
   offered-more end l e h =
@@ -54,6 +57,7 @@ module _ {case r : Case} {words : List ℕ} {at : ℕ} (o : Offering case words 
             ∙ ap afterAll (append-assoc frames (o .done) (word ∷ []));
       }
 
+  -- after the last word
   pub offered-all : length words ≤ at → HandedOn case (withWords words) r
   unfolding withWords
   offered-all l =
@@ -70,14 +74,15 @@ new-case [] l is e = record { isCase = is; after = λ frames f. e }
 new-case (x ∷ []) l is e = record { isCase = is; after = λ frames f. e }
 new-case (x ∷ y ∷ more) l is e = absurd (omega arith)
 
+-- any other line goes by its first byte
 by-command : (text : List ℕ) (frames : List Decoded) → 1 < length text → afterLine text frames ≡ cond (eqb (getD text 0 0) 70) (withWords (fromMark 124 (drop 2 text)) frames) frames
 unfolding afterLine
 by-command [] frames l = absurd (omega arith)
 by-command (x ∷ []) frames l = absurd (omega arith)
 by-command (x ∷ y ∷ more) frames l = refl
 
--- another line
 module _ {case : Case} (text : List ℕ) (l : 1 < length text) where
+  -- `F`
   pub frames-offered : {r : Case} (bar : ℕ) → getD text 0 0 ≡ 70 → EndAt text 2 124 bar → HandedOn case (withWords (take (length text - bar) (drop bar text))) r → HandedOn case (afterLine text) r
   frames-offered bar c e h =
       let rest : take (length text - bar) (drop bar text) ≡ fromMark 124 (drop 2 text) =
@@ -87,6 +92,7 @@ module _ {case : Case} (text : List ℕ) (l : 1 < length text) where
         after = λ frames f. rw (by-command text frames l, eq-eqb (getD text 0 0) 70 c, ← rest) (h .after frames f);
       }
 
+  -- another byte
   pub other-command : (getD text 0 0 ≡ 70 → ⊥) → IsCase case → HandedOn case (afterLine text) case
   other-command c is =
       record {

@@ -12,9 +12,13 @@ use Rattle.cases.specs.State.{afterAll}
 use Rattle.cases.specs.Running.{IsCase}
 use Rattle.input.specs.Script.{bytesSpelled, wordsOf, fromMark}
 
+-- the bytes of the program's buffer
+abbrev pub bufferBytes : ℕ
+bufferBytes = 4096
+
 -- the frame that a word in hexadecimal is, by as many of the bytes that it spells as the buffer has room for
 unfoldable pub frameOfWord : List ℕ → Decoded
-frameOfWord word = decoded (take 4096 (bytesSpelled word))
+frameOfWord word = decoded (take bufferBytes (bytesSpelled word))
 
 -- frames offered, and behind them those of words
 unfoldable pub withWords : List ℕ → List Decoded → List Decoded

@@ -1,4 +1,6 @@
 pub mod Worked
-pub mod InLines
+pub mod Holding
+pub mod Spelling
+pub mod LineByLine
 pub mod Writing
 pub mod Example

@@ -3,24 +3,20 @@ use Prim.Native.Nat.{ℕ, _+_}
 use mathlib.Core.Path.{_≡_, refl, sym, _∙_}
 use mathlib.Core.List.{List, [], _∷_}
 use mathlib.Core.Bool.{Bool, true, false, cond}
-use native.Mathlib.Omega.{arith}
 use lib.Dec.{ltb, eqb}
 use lib.ListN.{length}
 use borrow.Author.Tests.{eqb-true, eqb-false}
 use Rattle.measures.specs.Tries.{tried, after, Unrefused, done, more}
+use Rattle.measures.proofs.Tests.{clash}
 use Rattle.frames.specs.declared.Decoded.{Decoded}
 use Rattle.rules.specs.declared.Amounts.{Amounts}
-use Rattle.rules.specs.declared.Refusal.{Refusal}
 use Rattle.rules.specs.declared.Outcome.{Outcome}
 use Rattle.rules.specs.Rules.{Kept, nothing, begun, refusalOfDecoded, keepDecoded, kept}
 use Rattle.rules.specs.Working.{closingOf, amountsOf, workedUnless, answerOf, numberOf, amountsGiven}
 use Rattle.rules.specs.Rivals.{Largest}
 use Rattle.cases.specs.State.{afterAll, outcomeOf}
 use Rattle.cases.proofs.Contracts.{largest-decoded, answer-running}
-use Rattle.texts.specs.Text.{framesOf, readFrom, workText, TextWorked}
-
-never : {A : Type 0} (r : Refusal) (a : Amounts) → _≡_ {A = Outcome} (Outcome.Refused r) (Outcome.Worked a) → A
-never r a e = absurd (let z : _≡_ {A = ℕ} 0 1 = cc in let y : ⊥ = omega arith in y)
+use Rattle.texts.specs.Text.{framesOf, readFrom, longestText, workText, TextWorked}
 
 -- a worked text had nothing refused, and its answer is that of the frames kept
 record Read (k : Kept) (ds : List Decoded) (a : Amounts) : Type 0 where
@@ -39,14 +35,14 @@ read-worked k line (d ∷ ds) a e = by (eqb (refusalOfDecoded k d) 0) refl (λ (
     by true q next e =
         let r = next e in
         record { unrefused = more (eqb-true _ 0 q) (r .unrefused); answer = rw q (r .answer) }
-    by false q next e = never _ a e
+    by false q next e = clash (cc)
 
 text-read : (text : List ℕ) (a : Amounts) → workText text ≡ Outcome.Worked a → Read nothing (framesOf text) a
 unfolding workText
-text-read text a e = by (ltb 32768 (length text)) e
+text-read text a e = by (ltb longestText (length text)) e
   where
     by : (t : Bool) → cond t (Outcome.Refused (record { number = 1; line = 0 })) (readFrom nothing 1 (framesOf text)) ≡ Outcome.Worked a → Read nothing (framesOf text) a
-    by true e = never _ a e
+    by true e = clash (cc)
     by false e = read-worked nothing 1 (framesOf text) a e
 
 -- every frame of a worked text is kept
@@ -77,7 +73,7 @@ numbered-unless number line o false e n = eqb-false number 0 e
 
 answer-numbered : (k : Kept) → Numbered (answerOf k)
 unfolding answerOf workedUnless
-answer-numbered nothing = λ e. let z : ⊥ = omega arith in z
+answer-numbered nothing = λ e. clash (cc)
 answer-numbered (begun k) = numbered-unless (closingOf (begun k)) 0 (Outcome.Worked (amountsOf k)) (eqb (closingOf (begun k)) 0) refl tt
 
 read-numbered : (k : Kept) (line : ℕ) (ds : List Decoded) → Numbered (readFrom k line ds)
@@ -88,10 +84,10 @@ read-numbered k line (d ∷ ds) =
 
 pub text-numbered : (text : List ℕ) → Numbered (workText text)
 unfolding workText
-text-numbered text = by (ltb 32768 (length text))
+text-numbered text = by (ltb longestText (length text))
   where
     by : (t : Bool) → Numbered (cond t (Outcome.Refused (record { number = 1; line = 0 })) (readFrom nothing 1 (framesOf text)))
-    by true = λ e. let z : ⊥ = omega arith in z
+    by true = λ e. clash (cc)
     by false = read-numbered nothing 1 (framesOf text)
 
 -- so a text without a refusal is worked, and its amounts are the largest

@@ -73,10 +73,10 @@ behind-all {start} {at} {many} {number} {bytes} {left} {rest} b none =
     let all : digitsOf many number ≡ b .done = b .digits ∙ rw none refl in
     b .written ∙ rw (here, all) refl
 
--- bytes behind bytes
-pub joined : {first second third : PrintedLine} {m n : ℕ} {xs ys : List ℕ} → Extended first m xs second → Extended second n ys third
+-- bytes behind a line, and more behind them
+pub extended-twice : {first second third : PrintedLine} {m n : ℕ} {xs ys : List ℕ} → Extended first m xs second → Extended second n ys third
     → Extended first (m + n) (xs ++ ys) third
-joined {first} {second} {third} {m} {n} d e = record {
+extended-twice {first} {second} {third} {m} {n} d e = record {
   size = e .size;
   count = omega arith;
   bytes = e .bytes ∙ rw (d .bytes, append-assoc) refl;

@@ -24,16 +24,16 @@ pub data Line : Type 0 where
   unended : List ℕ → Line
 
 -- one more character in front of the lines of what follows it, `true` where it is 0A
-unfoldable pub before : Bool → ℕ → List Line → List Line
-before true x ls = ended [] ∷ ls
-before false x [] = unended (x ∷ []) ∷ []
-before false x (ended cs ∷ ls) = ended (x ∷ cs) ∷ ls
-before false x (unended cs ∷ ls) = unended (x ∷ cs) ∷ ls
+unfoldable pub characterThen : Bool → ℕ → List Line → List Line
+characterThen true x ls = ended [] ∷ ls
+characterThen false x [] = unended (x ∷ []) ∷ []
+characterThen false x (ended cs ∷ ls) = ended (x ∷ cs) ∷ ls
+characterThen false x (unended cs ∷ ls) = unended (x ∷ cs) ∷ ls
 
 -- the lines of a text
 unfoldable pub linesOf : List ℕ → List Line
 linesOf [] = []
-linesOf (x ∷ more) = before (eqb x 10) x (linesOf more)
+linesOf (x ∷ more) = characterThen (eqb x 10) x (linesOf more)
 
 -- a byte's two digits in front of the bytes that follow; none where one of the three is missing
 unfoldable pub byteThen : Digit → Digit → Option (List ℕ) → Option (List ℕ)
@@ -77,10 +77,14 @@ readFrom k line (d ∷ ds) =
     cond (eqb (refusalOfDecoded k d) 0) (readFrom (keepDecoded k d) (line + 1) ds)
     (Outcome.Refused (record { number = refusalOfDecoded k d; line = line }))
 
+-- "32,768 bytes"
+abbrev pub longestText : ℕ
+longestText = 32768
+
 -- "Whole text: 1, over 32,768 bytes (line 0)." "the first line is 1"
 unfoldable pub workText : List ℕ → Outcome
 workText text =
-    cond (ltb 32768 (length text)) (Outcome.Refused (record { number = 1; line = 0 })) (readFrom nothing 1 (framesOf text))
+    cond (ltb longestText (length text)) (Outcome.Refused (record { number = 1; line = 0 })) (readFrom nothing 1 (framesOf text))
 
 -- ---- what the working of a text promises
 

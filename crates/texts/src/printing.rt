@@ -1,4 +1,5 @@
 // The line that the case program prints.
+use super::PRINTED_BYTES;
 use super::PrintedLine;
 use rules::Outcome;
 ghost use mathlib.Core.Path.{_≡_};
@@ -6,6 +7,9 @@ ghost use mathlib.Core.List.{[], _∷_};
 ghost use Prim.Native.Nat.{_<_};
 ghost use Rattle.texts.specs.Printed.{characterOf, digitsOf, Printed};
 ghost use Rattle.texts.specs.Lines.{Room, Extended};
+
+// The digits of an amount.
+const AMOUNT_DIGITS: usize = 16;
 
 // The character of a digit.
 fn character(digit: u8) -> u8
@@ -54,16 +58,16 @@ pub fn printed(outcome: Outcome) -> PrintedLine
     ensures { λ r. ⌜ Printed outcome r ⌝ }
 {
     let empty = PrintedLine {
-        bytes: [0; 67],
+        bytes: [0; PRINTED_BYTES],
         count: 0,
     };
     match outcome {
         Outcome::Worked(a) => {
             let kind = with_number(empty, 2, 0x80);
-            let net_2015 = with_number(kind, 16, a.net_2015.0);
-            let net_1995 = with_number(net_2015, 16, a.net_1995.0);
-            let net_lump_sum = with_number(net_1995, 16, a.net_lump_sum.0);
-            let charge = with_number(net_lump_sum, 16, a.charge.0);
+            let net_2015 = with_number(kind, AMOUNT_DIGITS, a.net_2015.0);
+            let net_1995 = with_number(net_2015, AMOUNT_DIGITS, a.net_1995.0);
+            let net_lump_sum = with_number(net_1995, AMOUNT_DIGITS, a.net_lump_sum.0);
+            let charge = with_number(net_lump_sum, AMOUNT_DIGITS, a.charge.0);
             with_end(charge)
         }
         Outcome::Refused(r) => {

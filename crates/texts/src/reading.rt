@@ -1,4 +1,5 @@
 // A text read line by line into a running case.
+use super::LONGEST_TEXT;
 use cases::Case;
 use fields::Digit;
 use fields::read_digit;
@@ -13,11 +14,14 @@ ghost use Rattle.texts.specs.Text.{TextWorked};
 // The bytes of a line that are kept: one more than the longest frame has, so that the decoder refuses a longer line by its length.
 const KEPT: usize = LONGEST_FRAME + 1;
 
+// The first digit of a byte where none is read.
+const NO_DIGIT: u8 = 16;
+
 // What a text comes to: the amounts of its case, or the refusal of the first offending line.
 pub fn work_text(text: &[u8]) -> Outcome
     ensures { λ r. ⌜ TextWorked (now (text .entry)) r ⌝ }
 {
-    if 32768 < text.len() {
+    if LONGEST_TEXT < text.len() {
         return Outcome::Refused(Refusal { number: 1, line: 0 });
     }
     let mut case = Case::start();
@@ -31,8 +35,7 @@ pub fn work_text(text: &[u8]) -> Outcome
         line += 1;
         let mut bytes = [0u8; KEPT];
         let mut n: usize = 0;
-        // The first digit of a byte, 16 where none waits.
-        let mut high: u8 = 16;
+        let mut high: u8 = NO_DIGIT;
         loop {
             if text.len() <= at {
                 number = 2;
@@ -47,17 +50,17 @@ pub fn work_text(text: &[u8]) -> Outcome
                 number = 2;
                 break 'lines;
             };
-            if high == 16 {
+            if high == NO_DIGIT {
                 high = v;
             } else {
                 if n < KEPT {
                     bytes[n] = high * 16 + v;
                     n += 1;
                 }
-                high = 16;
+                high = NO_DIGIT;
             }
         }
-        if high != 16 {
+        if high != NO_DIGIT {
             number = 2;
             break 'lines;
         }

@@ -1,7 +1,5 @@
 -- `benefits::accrued` meets its contract: measures rounds the quotient.
-use native.Mathlib.Omega.{arith}
 use borrow.Author.Needs.{needs}
-use Rattle.measures.specs.Rounding.{rounded}
 use Rattle.benefits.specs.Steps.{accrued}
 use Rattle.benefits.proofs.accrued.Statement.{statement}
 use Rattle.benefits.proofs.accrued.Tie as tie
@@ -10,8 +8,8 @@ rounded-requires : tie.Need-rounded-requires
 rounded-requires c κs = search needs
 
 returns : tie.Need-returns
-unfolding accrued rounded
-returns c = omega arith
+unfolding accrued
+returns c = c .rounded .ensures
 
 pub accrued-spec : {M : Type 1} → statement M
 accrued-spec = tie.close (tie.spec rounded-requires returns)

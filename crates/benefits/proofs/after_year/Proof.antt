@@ -14,8 +14,9 @@ accrued-requires c κs = search needs
 
 add-t6 : tie.Need-add-t6
 add-t6 c =
-    let old = revalued-limit _ _ (c .before .before .before .before .pre .0) (c .before .before .before .before .pre .1) in
-    let new = accrued-limit _ (c .before .before .before .before .pre .2) in
+    let s = c .before .before .before .before in
+    let old = revalued-limit _ _ (s .pre .0) (s .pre .1) in
+    let new = accrued-limit _ (s .pre .2) in
     omega arith
 
 returns : tie.Need-returns

@@ -2,6 +2,7 @@
 use Prim.Native.Nat.{ℕ, _≤_}
 use native.Mathlib.Omega.{arith}
 use borrow.Author.Needs.{needs}
+use Rattle.benefits.specs.Limits.{highestAllowance}
 use Rattle.benefits.specs.Steps.{allowedFrom}
 use Rattle.benefits.proofs.Highest.{of-year}
 use Rattle.benefits.proofs.allowed_from.Statement.{statement}
@@ -17,7 +18,7 @@ raised-requires : tie.Need-raised-requires
 raised-requires c κs =
     let s = c .before .before .before in
     let b = s .pre .0 in
-    (omega (arith, s .pre .1), rw (c .allowance-in .ensures) (of-year (λ (a : ℕ). a ≤ 1000) (s .args .year) (b .allowance3) (b .allowance2) (b .allowance1)))
+    (omega (arith, s .pre .1), rw (c .allowance-in .ensures) (of-year (λ (a : ℕ). a ≤ highestAllowance) (s .args .year) (b .allowance3) (b .allowance2) (b .allowance1)))
 
 returns : tie.Need-returns
 unfolding allowedFrom

@@ -2,7 +2,7 @@
 use mathlib.Core.Path.{sym, _∙_}
 use borrow.Author.Needs.{needs}
 use Rattle.measures.proofs.Tests.{tests}
-use Rattle.measures.specs.Answers.{answerOf}
+use Rattle.measures.specs.Answers.{answerWith}
 use Rattle.measures.proofs.Answering.{answered}
 use Rattle.benefits.specs.Steps.{chargeAnswer}
 use Rattle.benefits.proofs.Accepted.{accepted-final-pay}
@@ -13,14 +13,14 @@ final-pay-refusal-requires : tie.Need-final-pay-refusal-requires
 final-pay-refusal-requires c κs = search needs
 
 returns : tie.Need-returns
-unfolding chargeAnswer answerOf
+unfolding chargeAnswer answerWith
 returns c = answered _ _ _ (search (tests, ← (c .before .final-pay-refusal .ensures)))
 
 charge-requires : tie.Need-charge-requires
 charge-requires c κs = accepted-final-pay (c .before .before .args .f) (sym (c .before .final-pay-refusal .ensures) ∙ c .if1 .left)
 
 returns-2 : tie.Need-returns-2
-unfolding chargeAnswer answerOf
+unfolding chargeAnswer answerWith
 returns-2 c = answered _ _ _ (simp (← (c .before .before .final-pay-refusal .ensures), c .before .if1 .left, ← (c .charge .ensures)))
 
 pub charge-call-spec : {M : Type 1} → statement M

@@ -10,13 +10,13 @@ higher-requires : tie.Need-higher-requires
 higher-requires c κs = search needs
 
 returns : tie.Need-returns
-returns c = sym (best-1 (c .before .before .before .before .before .before .before .args .f) (omega arith))
+returns c = sym (best-1 _ (omega arith))
 
 returns-2 : tie.Need-returns-2
-returns-2 c = sym (best-2 (c .before .before .before .before .before .before .before .before .before .before .args .f) (omega arith) (omega arith))
+returns-2 c = sym (best-2 _ (omega arith) (omega arith))
 
 returns-3 : tie.Need-returns-3
-returns-3 c = sym (best-3 (c .before .before .before .before .before .before .before .before .before .before .args .f) (omega arith) (omega arith))
+returns-3 c = sym (best-3 _ (omega arith) (omega arith))
 
 pub final-pay-spec : {M : Type 1} → statement M
 final-pay-spec = tie.close (tie.spec higher-requires returns returns-2 returns-3)

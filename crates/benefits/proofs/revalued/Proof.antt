@@ -6,18 +6,15 @@ use Rattle.benefits.proofs.Monotone.{rise}
 use Rattle.benefits.proofs.revalued.Statement.{statement}
 use Rattle.benefits.proofs.revalued.Tie as tie
 
-add-rounded : tie.Need-add-rounded
-add-rounded c = search needs
+add-scaled : tie.Need-add-scaled
+add-scaled c = search needs
 
-mul-rounded : tie.Need-mul-rounded
-mul-rounded c = omega (arith, rise 10000 (c .before .pre .0) (c .before .pre .1))
-
-rounded-requires : tie.Need-rounded-requires
-rounded-requires c κs = search needs
+scaled-requires : tie.Need-scaled-requires
+scaled-requires c κs = omega (arith, rise 10000 (c .pre .0) (c .pre .1))
 
 returns : tie.Need-returns
 unfolding revalued
-returns c = c .rounded .ensures
+returns c = c .scaled .ensures
 
 pub revalued-spec : {M : Type 1} → statement M
-revalued-spec = tie.close (tie.spec add-rounded mul-rounded rounded-requires returns)
+revalued-spec = tie.close (tie.spec add-scaled scaled-requires returns)

@@ -1,20 +1,16 @@
 -- `benefits::section_pension` meets its contract: the product fits, and measures rounds it.
 use native.Mathlib.Nat.{mul-le-mul}
 use native.Mathlib.Omega.{arith}
-use borrow.Author.Needs.{needs}
 use Rattle.benefits.specs.Steps.{sectionPension}
 use Rattle.benefits.proofs.section_pension.Statement.{statement}
 use Rattle.benefits.proofs.section_pension.Tie as tie
 
-mul-rounded : tie.Need-mul-rounded
-mul-rounded c = omega (arith, mul-le-mul (c .before .pre .0) (c .before .pre .1))
-
-rounded-requires : tie.Need-rounded-requires
-rounded-requires c κs = search needs
+scaled-requires : tie.Need-scaled-requires
+scaled-requires c κs = omega (arith, mul-le-mul (c .pre .0) (c .pre .1))
 
 returns : tie.Need-returns
 unfolding sectionPension
-returns c = c .rounded .ensures
+returns c = c .scaled .ensures
 
 pub section-pension-spec : {M : Type 1} → statement M
-section-pension-spec = tie.close (tie.spec mul-rounded rounded-requires returns)
+section-pension-spec = tie.close (tie.spec scaled-requires returns)

@@ -5,6 +5,10 @@ use Rattle.calendar.proofs.CountedMonths.{ordered, ordered-short, compl
 use Rattle.calendar.proofs.completed_months.Statement.{statement}
 use Rattle.calendar.proofs.completed_months.Tie as tie
 
+-- the start, from where both months are numbered
+abbrev started : tie.After-struct-known4 → tie.Start
+started c = c .before .before .before .before
+
 mul-months : tie.Need-mul-months
 mul-months c = search needs
 
@@ -18,24 +22,22 @@ add-months-2 : tie.Need-add-months-2
 add-months-2 c = search needs
 
 sub-months : tie.Need-sub-months
-sub-months c =
-    let s = c .before .before .before .before in
-    omega (arith, ordered (s .args .birth) (s .args .retirement) (s .pre))
+sub-months c = omega (arith, ordered _ _ (started c .pre))
 
 sub-t9 : tie.Need-sub-t9
 sub-t9 c =
-    let s = c .before .before .before .before .before .before .before in
-    omega (arith, ordered-short (s .args .birth) (s .args .retirement) (s .pre) (c .if1 .taken))
+    let numbered = c .before .before .before in
+    omega (arith, ordered-short _ _ (started numbered .pre) (c .if1 .taken))
 
 returns : tie.Need-returns
 returns c =
-    let s = c .before .before .before .before .before .before .before in
-    completed-short (s .args .birth) (s .args .retirement) (s .pre) (c .if1 .taken)
+    let numbered = c .before .before .before in
+    completed-short _ _ (started numbered .pre) (c .if1 .taken)
 
 returns-2 : tie.Need-returns-2
 returns-2 c =
-    let s = c .before .before .before .before .before .before .before in
-    completed-full (s .args .birth) (s .args .retirement) (s .pre) (c .if1 .left)
+    let numbered = c .before .before .before in
+    completed-full _ _ (started numbered .pre) (c .if1 .left)
 
 pub completed-months-spec : {M : Type 1} → statement M
 completed-months-spec =

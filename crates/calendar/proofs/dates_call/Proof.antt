@@ -2,7 +2,7 @@
 use mathlib.Core.Path.{sym, _∙_}
 use native.Mathlib.Omega.{arith}
 use borrow.Author.Needs.{needs}
-use Rattle.calendar.specs.Dates.{refusalOf, monthsGiven}
+use Rattle.calendar.specs.Dates.{refusalGiven, monthsGiven}
 use Rattle.calendar.proofs.AcceptedDates.{accepted, accepted-age, accepted-number, refused-number, refused-5}
 use Rattle.calendar.proofs.dates_call.Statement.{statement}
 use Rattle.calendar.proofs.dates_call.Tie as tie
@@ -11,7 +11,7 @@ dates-refusal-requires : tie.Need-dates-refusal-requires
 dates-refusal-requires c κs = search needs
 
 returns : tie.Need-returns
-unfolding refusalOf monthsGiven
+unfolding refusalGiven monthsGiven
 returns c =
     let e = c .before .dates-refusal .ensures in (
       e,
@@ -27,7 +27,7 @@ months-early-requires c κs =
     (accepted _ _ _ e, omega (arith, accepted-age _ _ _ e))
 
 returns-2 : tie.Need-returns-2
-unfolding refusalOf monthsGiven
+unfolding refusalGiven monthsGiven
 returns-2 c =
     let e = sym (c .before .before .dates-refusal .ensures) ∙ c .before .if1 .left in
     (sym e, (c .months-early .ensures .0 ∙ accepted-number _ _ _ e, c .months-early .ensures .1))

@@ -13,12 +13,16 @@ use Rattle.calendar.proofs.dates_refusal.Tie as tie
 stands-birth : (c : tie.Else1) → dateStands (c .before .before .args .birth) ≡ true
 stands-birth c = sym (c .before .date-stands .ensures) ∙ not-false _ (c .if1 .left)
 
-stands-retirement : (c : tie.Else2) → dateStands (c .before .before .before .before .args .retirement) ≡ true
+-- the start, from where both dates stood
+abbrev started : tie.Else2 → tie.Start
+started c = c .before .before .before .before
+
+stands-retirement : (c : tie.Else2) → dateStands (started c .args .retirement) ≡ true
 stands-retirement c = sym (c .before .date-stands2 .ensures) ∙ not-false _ (c .if2 .left)
 
 -- the pension age decides once the dates are accepted
 by-age : (c : tie.Else3) (pensionAge : ℕ)
-    → let s = c .before .before .before .before .before .before in
+    → let s = started (c .before .before) in
     datesRefusal (s .args .birth) (s .args .retirement) pensionAge ≡ unless (within 55 75 pensionAge) 5
 unfolding datesRefusal
 by-age c pensionAge =

@@ -1,5 +1,5 @@
 -- `calendar::refusal_number` meets its contract.
-use Rattle.calendar.specs.Dates.{refusalOf}
+use Rattle.calendar.specs.Dates.{refusalGiven}
 use borrow.Author.Needs.{needs}
 use Rattle.calendar.proofs.refusal_number.Statement.{statement}
 use Rattle.calendar.proofs.refusal_number.Tie as tie
@@ -11,11 +11,11 @@ enum-known-answer : tie.Need-enum-known-answer
 enum-known-answer c = search needs
 
 returns : tie.Need-returns
-unfolding refusalOf
+unfolding refusalGiven
 returns c = rw (c .enum-told .given .1)
 
 returns-2 : tie.Need-returns-2
-unfolding refusalOf
+unfolding refusalGiven
 returns-2 c = rw (c .before .answer .given .1)
 
 pub refusal-number-spec : {M : Type 1} → statement M

@@ -3,20 +3,23 @@ use Prim.Native.Nat.{_≤_}
 use mathlib.Core.Path.{_∙_}
 use borrow.Author.Needs.{needs}
 use Rattle.calendar.specs.Dates.{monthsGiven}
+use Rattle.calendar.specs.Ranges.{mostLate}
 use Rattle.calendar.proofs.SignedMonths.{months-fit, months-read, late-fits, late-read, early-bound, late-bound, early-given, late-given}
 use Rattle.calendar.proofs.signed.Statement.{statement}
 use Rattle.calendar.proofs.signed.Tie as tie
 
 -- the months of either arm are few
-early : (c : tie.After-struct-known) → c .before .before .months .given .0 .0 .0 ≤ 1751
+early : (c : tie.After-struct-known) → c .before .before .months .given .0 .0 .0 ≤ mostLate
 early c =
-    let s = c .before .before .before .before .before in
-    early-bound (s .answer .given .1) (s .before .before .pre) (c .before .before .months .given .1)
+    let arm = c .before .before in
+    let s = arm .before .before .before in
+    early-bound (s .answer .given .1) (s .before .before .pre) (arm .months .given .1)
 
-late : (c : tie.After-struct-known2) → c .before .before .months2 .given .0 .0 .0 ≤ 1751
+late : (c : tie.After-struct-known2) → c .before .before .months2 .given .0 .0 .0 ≤ mostLate
 late c =
-    let s = c .before .before .before .before .before in
-    late-bound (s .answer .given .1) (s .before .before .pre) (c .before .before .months2 .given .1)
+    let arm = c .before .before in
+    let s = arm .before .before .before in
+    late-bound (s .answer .given .1) (s .before .before .pre) (arm .months2 .given .1)
 
 enum-known-answer : tie.Need-enum-known-answer
 enum-known-answer c = search needs
@@ -41,13 +44,15 @@ enum-told c = search needs
 
 returns : tie.Need-returns
 returns c =
-    let s = c .before .before .before .before .before in
-    months-read _ (early c) ∙ early-given (s .answer .given .1) (s .before .before .pre) (c .before .before .months .given .1)
+    let arm = c .before .before in
+    let s = arm .before .before .before in
+    months-read _ (early c) ∙ early-given (s .answer .given .1) (s .before .before .pre) (arm .months .given .1)
 
 returns-2 : tie.Need-returns-2
 returns-2 c =
-    let s = c .before .before .before .before .before in
-    late-read _ (late c) ∙ late-given (s .answer .given .1) (s .before .before .pre) (c .before .before .months2 .given .1)
+    let arm = c .before .before in
+    let s = arm .before .before .before in
+    late-read _ (late c) ∙ late-given (s .answer .given .1) (s .before .before .pre) (arm .months2 .given .1)
 
 returns-3 : tie.Need-returns-3
 unfolding monthsGiven

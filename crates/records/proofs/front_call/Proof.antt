@@ -53,6 +53,7 @@ use Rattle.measures.proofs.Answer.Laws as R′
 use Rattle.posts.specs.declared.Post.{Post}
 use Rattle.posts.proofs.Post as T
 use Rattle.posts.proofs.Post.Laws as T′
+use Rattle.posts.specs.Limits.{tooManyPosts}
 use Rattle.records.specs.Records.{RecordsGiven}
 use Rattle.records.proofs.records_call as call
 use Rattle.records.proofs.records_call.Symbol as call-def
@@ -70,40 +71,40 @@ abbrev vals : Post → List Val
 vals = LL.vals T.the-type T′.the-laws
 
 abbrev Posts : RattleType
-Posts = Array T.the-row 17
+Posts = Array T.the-row tooManyPosts
 
 abbrev val : List Post → Val
 val l = only (array-vals vals l)
 
 posts-tell : Tells Posts (Is Posts) (λ l. val l ∷ [])
-posts-tell = array-tells T.the-row vals (LL.tells T.the-type T′.the-laws) 17
+posts-tell = array-tells T.the-row vals (LL.tells T.the-type T′.the-laws) tooManyPosts
 
 module _ {M : Type 1} (𝓤 : URA M) (H : Heap 𝓤) (A : Atoms 𝓤) (W : Given 𝓤 H A) (l : List Post) (is : Is Posts l (val l ∷ [])) (b : ℕ) where
   abbrev All : ℕ → Fml
   All n = arr-parts (shares T.the-row) n .part fullShare l b 0
 
   -- a local that holds the array is its elements side by side, and back
-  apart : ent 𝓤 (sem 𝓤 H A (fat fullShare (tyArray T′.mir 17) b 0 (val l))) (sem 𝓤 H A (All (length l)))
+  apart : ent 𝓤 (sem 𝓤 H A (fat fullShare (tyArray T′.mir tooManyPosts) b 0 (val l))) (sem 𝓤 H A (All (length l)))
   unfolding partOf
   apart =
-      qed W (‵ (fat fullShare (tyArray T′.mir 17) b 0 (val l)) ∷ []) ∵ use1 W (‵ (cellAt fullShare (Posts .mir) (val l ∷ []) b 0)) (W .laws .at-raw fullShare (tyArray T′.mir 17) b 0 (val l)) $
-      owned ! Posts (Is Posts) (array-makes 𝓤 H A W T.the-row (LL.makes T.the-type T′.the-plain 𝓤 H A) 17) l _ is $ move ! (1 ∷ 0 ∷ []) $ fjoin ! $
+      qed W (‵ (fat fullShare (tyArray T′.mir tooManyPosts) b 0 (val l)) ∷ []) ∵ use1 W (‵ (cellAt fullShare (Posts .mir) (val l ∷ []) b 0)) (W .laws .at-raw fullShare (tyArray T′.mir tooManyPosts) b 0 (val l)) $
+      owned ! Posts (Is Posts) (array-makes 𝓤 H A W T.the-row (LL.makes T.the-type T′.the-plain 𝓤 H A) tooManyPosts) l _ is $ move ! (1 ∷ 0 ∷ []) $ fjoin ! $
       fpack ! (List Val) (λ vs. fsep (cellAt fullShare (Posts .mir) vs b 0) (Posts .own l vs)) (val l ∷ []) $
-      use1 W (‵ (All 17)) (array-apart 𝓤 H A W T.the-row fullShare tt 17 l b 0) $ rewrite ! 0 (λ (n : ℕ). ‵ (All n)) (sym (is .1 .0 .1)) refl $ done !
+      use1 W (‵ (All tooManyPosts)) (array-apart 𝓤 H A W T.the-row fullShare tt tooManyPosts l b 0) $ rewrite ! 0 (λ (n : ℕ). ‵ (All n)) (sym (is .1 .0 .1)) refl $ done !
 
-  again : ent 𝓤 (sem 𝓤 H A (All (length l))) (sem 𝓤 H A (fat fullShare (tyArray T′.mir 17) b 0 (val l)))
+  again : ent 𝓤 (sem 𝓤 H A (All (length l))) (sem 𝓤 H A (fat fullShare (tyArray T′.mir tooManyPosts) b 0 (val l)))
   unfolding partOf
   again =
-      qed W (‵ (All (length l)) ∷ []) ∵ rewrite ! 0 (λ (n : ℕ). ‵ (All n)) (is .1 .0 .1) refl $ use1 W (‵ (partAt Posts fullShare l b 0)) (array-whole 𝓤 H A W T.the-row fullShare 17 l b 0) $
+      qed W (‵ (All (length l)) ∷ []) ∵ rewrite ! 0 (λ (n : ℕ). ‵ (All n)) (is .1 .0 .1) refl $ use1 W (‵ (partAt Posts fullShare l b 0)) (array-whole 𝓤 H A W T.the-row fullShare tooManyPosts l b 0) $
       fpick ! (λ vs. fsplit ! $ move ! (1 ∷ []) $ facts ! Posts (Is Posts) (shows 𝓤 H A Posts) l vs (λ p. rewrite ! 0 (λ (us : List Val). ‵ (cellAt fullShare (Posts .mir) us b 0)) (posts-tell l vs p) refl $
-      use1 W (‵ (fat fullShare (tyArray T′.mir 17) b 0 (val l))) (W .laws .raw-at fullShare (tyArray T′.mir 17) b 0 (val l)) $ done !))
+      use1 W (‵ (fat fullShare (tyArray T′.mir tooManyPosts) b 0 (val l))) (W .laws .raw-at fullShare (tyArray T′.mir tooManyPosts) b 0 (val l)) $ done !))
 
 module _ {M : Type 1} (𝓤 : URA M) (H : Heap 𝓤) (A : Atoms 𝓤) (mem : Memory → SProp 𝓤) (run : Routine → Fun 𝓤) where
   -- the contract that the proof cites
   abbrev Records : Contract 𝓤
   Records = tripleOf 𝓤 H A call.signature (call.spec 𝓤 H A mem run)
 
-module _ {M : Type 1} (𝓤 : URA M) (H : Heap 𝓤) (A : Atoms 𝓤) (W : Given 𝓤 H A) (mem : Memory → SProp 𝓤) (run : Routine → Fun 𝓤) (κ : Lft) (q : Share) (l : List Post) (n : ℕ) (x : RefT (List ℕ)) (is : Is Posts l (val l ∷ [])) (gn : n < 2 ^ 64) (gx : Room u64 (length (x .now))) (few : n ≤ 17) where
+module _ {M : Type 1} (𝓤 : URA M) (H : Heap 𝓤) (A : Atoms 𝓤) (W : Given 𝓤 H A) (mem : Memory → SProp 𝓤) (run : Routine → Fun 𝓤) (κ : Lft) (q : Share) (l : List Post) (n : ℕ) (x : RefT (List ℕ)) (is : Is Posts l (val l ∷ [])) (gn : n < 2 ^ 64) (gx : Room u64 (length (x .now))) (few : n ≤ tooManyPosts) where
   abbrev vx : Val
   vx = sliceVal (x .ptr) (length (x .now))
 
@@ -157,7 +158,7 @@ module _ {M : Type 1} (𝓤 : URA M) (H : Heap 𝓤) (A : Atoms 𝓤) (W : Given
   module _ (C : Calls 𝓤 H) (Λ : Loops 𝓤 H) (fm : FmC 𝓤 H (W .laws) C) (known : Triple 𝓤 (C #records·records-call) (Records 𝓤 H A mem run)) where
     walk : ent 𝓤 (onEntry 𝓤 H A f.signature (κ, tt) (q, tt) (bound .0 .3) (bound .0 .4)) (WpFn 𝓤 H C Λ code.function (val l ∷ vint w64 n ∷ vx ∷ []) Ends)
     walk =
-        let wt = array-lawful 𝓤 H A W T.the-row (LL.lawful T.the-type T′.the-laws 𝓤 H A W) 17 .typed l _ is .0 in
+        let wt = array-lawful 𝓤 H A W T.the-row (LL.lawful T.the-type T′.the-laws 𝓤 H A W) tooManyPosts .typed l _ is .0 in
         qed W ((‵ (flft κ q) ⊛ ‵ ftrue) ∷ ‵ (owns (Posts ∷ usize ∷ MutSlice (named 0) κ u64 ∷ []) (bound .0 .3) (bound .0 .4)) ∷ []) ∵ enter ! C Λ code.function (val l ∷ vint w64 n ∷ vx ∷ []) _ $
         alloc1 ! (λ l₀. alloc1 ! (λ l₁. alloc1 ! (λ l₂. alloc1 ! (λ l₃. alloc1 ! (λ l₄. alloc1 ! (λ l₅. alloc1 ! (λ l₆. alloc1 ! (λ l₇. alloc1 ! (λ l₈. alloc0 ! $ params1 ! $
         pass1 ! (init ! 14 refl wt) $ pass1 ! (init ! 12 refl (tt, record { fits = gn })) $ pass1 ! (init ! 10 refl (tt, (tt, (record { fits = gx .0 }, tt)))) $ pass0 ! $
@@ -180,7 +181,7 @@ module _ {M : Type 1} (𝓤 : URA M) (H : Heap 𝓤) (A : Atoms 𝓤) (W : Given
         split ! $ move ! (1 ∷ []) $ heard ! (RecordsGiven (take n l) (x .now) r (zs .1 .0)) (λ er.
         fsplit ! $ drop ! $ fsplit ! $ fsplit ! $ move ! (1 ∷ []) $ feqL ! (λ k.
         -- [the last list; true; the tokens and the result; true; the lender's part; _8; …]: the lifetime is ended, and the array is whole again
-        move ! (2 ∷ []) $ split ! $ split ! $ lft-end ! tt $ move ! (0 ∷ 6 ∷ []) $ lent-back ! tt $ use1 W (‵ (fat fullShare (tyArray T′.mir 17) l₄ 0 (val l))) (again 𝓤 H A W l is l₄) $
+        move ! (2 ∷ []) $ split ! $ split ! $ lft-end ! tt $ move ! (0 ∷ 6 ∷ []) $ lent-back ! tt $ use1 W (‵ (fat fullShare (tyArray T′.mir tooManyPosts) l₄ 0 (val l))) (again 𝓤 H A W l is l₄) $
         move ! (2 ∷ []) $ peeks ! R.the-row (Is R.the-row) (shows 𝓤 H A R.the-row) r (w ∷ []) (λ isr.
         land ! (from ! (stop !)) (init ! 21 refl (EL.lawful R.the-type R′.the-laws 𝓤 H A W tt .typed r _ isr .0)) $
         returns ! (look ! 21 refl) $ forget ! 1 refl $ forget ! 6 refl $ forget ! 8 refl $ forget ! 10 refl $ forget ! 12 refl $ forget ! 15 refl $ forget ! 17 refl $ forget ! 19 refl $ forget ! 21 refl $
@@ -193,7 +194,7 @@ module _ {M : Type 1} (𝓤 : URA M) (H : Heap 𝓤) (A : Atoms 𝓤) (W : Given
       (λ κs qs bounds a g are. needs 𝓤 _ _ (λ few. walk 𝓤 H A W mem run (κs .0) (qs .0) (a .0) (a .1 .0) (a .1 .1 .0) (are .0) (are .1 .0 .1) (are .1 .1 .0 .0 .1) few (𝓣 .C) (𝓣 .Λ) (fmOf 𝓤 H (W .laws) 𝓣) known))
 
   front-meets : Meets 𝓤 H A f.signature (WpFn 𝓤 H (𝓣 .C) (𝓣 .Λ) code.function) (f.spec 𝓤 H A mem run)
-  front-meets = walk-meets 𝓤 H A f.ended stayed W (goes-dropped 𝓤 H A W 1 (ArrayOf (plain (λ _. T.the-row)) (λ κs. tt) 17) yes (λ κs x f. refl), (goes-dropped 𝓤 H A W 1 (plain (λ _. usize)) yes (λ κs x f. refl), (goes-gave-slice 𝓤 H A W 1 0 tt (plain (λ _. u64)), tt))) (f.clauses 𝓤 H A mem run) (WpFn 𝓤 H (𝓣 .C) (𝓣 .Λ) code.function) (WpFn-mono 𝓤 H (W .laws) 𝓣 code.function) front-walks
+  front-meets = walk-meets 𝓤 H A f.ended stayed W (goes-dropped 𝓤 H A W 1 (ArrayOf (plain (λ _. T.the-row)) (λ κs. tt) tooManyPosts) yes (λ κs x f. refl), (goes-dropped 𝓤 H A W 1 (plain (λ _. usize)) yes (λ κs x f. refl), (goes-gave-slice 𝓤 H A W 1 0 tt (plain (λ _. u64)), tt))) (f.clauses 𝓤 H A mem run) (WpFn 𝓤 H (𝓣 .C) (𝓣 .Λ) code.function) (WpFn-mono 𝓤 H (W .laws) 𝓣 code.function) front-walks
 
 pub front-call-spec : {M : Type 1} → stated.statement M
 unfolding code.routine tablesOf

@@ -2,14 +2,15 @@
 use Prim.Native.Nat.{ℕ, _≤_, _<_, min}
 use mathlib.Core.Path.{_≡_}
 use native.Mathlib.Omega.{arith}
+use Rattle.posts.specs.Limits.{tooManyPosts}
 use borrow.Author.Needs.{needs}
 use Rattle.records.proofs.records_front_call.Statement.{statement}
 use Rattle.records.proofs.records_front_call.Tie as tie
 
-most : (n : ℕ) → 17 < n → min n 17 ≡ 17
+most : (n : ℕ) → tooManyPosts < n → min n tooManyPosts ≡ tooManyPosts
 most n above = omega arith
 
-few : (n : ℕ) → n ≤ 17 → min n 17 ≡ n
+few : (n : ℕ) → n ≤ tooManyPosts → min n tooManyPosts ≡ n
 few n within = omega arith
 
 front-call-requires : tie.Need-front-call-requires

@@ -5,6 +5,10 @@ use borrow.Author.Needs.{needs}
 use Rattle.running.proofs.line.Statement.{statement}
 use Rattle.running.proofs.line.Tie as tie
 
+-- what the function is given, from where the bar is found
+abbrev given : tie.After-shared-slice-known2 → tie.Start
+given c = c .before .before .before .before
+
 start-requires : tie.Need-start-requires
 start-requires c κs = search needs
 
@@ -51,13 +55,17 @@ close-requires : tie.Need-close-requires
 close-requires c κs = search needs
 
 returns-2 : tie.Need-returns-2
-returns-2 c = frames-offered _ (omega arith) _ (c .before .before .before .match .keys1) (c .before .before .before .before .before .end-at .ensures) (c .offer .ensures)
+returns-2 c =
+    let command = c .before .before .before in
+    frames-offered _ (omega arith) _ (command .match .keys1) (command .before .before .end-at .ensures) (c .offer .ensures)
 
 returns-3 : tie.Need-returns-3
-returns-3 c = other-command _ (omega arith) (λ e. omega (arith, e, c .before .before .match .keys2)) (c .before .before .before .before .before .before .before .pre)
+returns-3 c =
+    let command = c .before .before in
+    other-command _ (omega arith) (λ e. omega (arith, e, command .match .keys2)) (given (command .before) .pre)
 
 returns-4 : tie.Need-returns-4
-returns-4 c = other-command _ (omega arith) (c .match .rest .0 .1) (c .before .before .before .before .before .pre)
+returns-4 c = other-command _ (omega arith) (c .match .rest .0 .1) (given (c .before) .pre)
 
 pub line-spec : {M : Type 1} → statement M
 line-spec =

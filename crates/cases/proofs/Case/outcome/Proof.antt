@@ -1,8 +1,11 @@
 -- `cases::Case::outcome` meets its contract: the refusal, or the nets of the amounts.
-use borrow.Author.Tests.{ne-eqb}
-use Rattle.cases.specs.State.{pensionNow, outcomeOf}
-use borrow.Author.Needs.{needs}
+use mathlib.Core.Path.{sym, subst}
 use native.Mathlib.Omega.{arith}
+use borrow.Author.Tests.{ne-eqb}
+use Rattle.rules.specs.Amounts.{AmountsBounds}
+use Rattle.section.proofs.Section.{earned-bounds}
+use Rattle.cases.specs.State.{grossOf, outcomeOf}
+use borrow.Author.Needs.{needs}
 use Rattle.cases.proofs.Case.outcome.Statement.{statement}
 use Rattle.cases.proofs.Case.outcome.Tie as tie
 
@@ -13,26 +16,30 @@ returns : tie.Need-returns
 unfolding outcomeOf
 returns c = simp (← (c .before .open-refusal .ensures), ne-eqb _ _ (c .if1 .taken))
 
-pension-with-requires : tie.Need-pension-with-requires
-pension-with-requires c κs = let b = c .before .before .pre in (b .service, b .posts)
+pension-requires : tie.Need-pension-requires
+pension-requires c κs = search needs
 
-gross-requires : tie.Need-gross-requires
-unfolding pensionNow
-gross-requires c κs = let b = c .before .before .before .pre in (b .dated, b .pay, omega (arith, c .pension-with .ensures, b .now))
+earned-requires : tie.Need-earned-requires
+earned-requires c κs = search needs
 
-debit-sums-requires : tie.Need-debit-sums-requires
-debit-sums-requires c κs = c .before .before .before .before .pre .debit1995
+reduced-requires : tie.Need-reduced-requires
+reduced-requires c κs =
+    let b = c .before .before .before .before .pre in
+    (b .dated, subst AmountsBounds (sym (c .earned .ensures)) (earned-bounds _ _ _ (b .pay) (omega (arith, c .before .pension .ensures, b .years .now))))
 
 charge-requires : tie.Need-charge-requires
-charge-requires c κs = c .before .before .before .before .before .pre .pay
+charge-requires c κs = search needs
 
-net-requires : tie.Need-net-requires
-net-requires c κs = search needs
+outcome-requires : tie.Need-outcome-requires
+outcome-requires c κs = search needs
 
 returns-2 : tie.Need-returns-2
-unfolding outcomeOf pensionNow
+unfolding outcomeOf grossOf
 returns-2 c =
-    simp (← (c .before .before .before .before .before .before .open-refusal .ensures), c .before .before .before .before .before .if1 .left, ← (c .before .before .before .before .pension-with .ensures), ← (c .before .before .before .gross .ensures), ← (c .before .before .debit-sums .ensures), ← (c .before .charge .ensures), c .net .ensures)
+    let g = c .before .before in
+    let p = g .before .before in
+    let o = p .before in
+    simp (← (o .before .open-refusal .ensures), o .if1 .left, ← (p .pension .ensures), ← (g .before .earned .ensures), ← (g .reduced .ensures), ← (c .before .charge .ensures), c .outcome .ensures)
 
 pub outcome-spec : {M : Type 1} → statement M
 outcome-spec =
@@ -40,9 +47,9 @@ outcome-spec =
     (tie.spec
     open-refusal-requires
     returns
-    pension-with-requires
-    gross-requires
-    debit-sums-requires
+    pension-requires
+    earned-requires
+    reduced-requires
     charge-requires
-    net-requires
+    outcome-requires
     returns-2)

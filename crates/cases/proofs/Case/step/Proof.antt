@@ -1,9 +1,23 @@
--- `cases::Case::step` meets its contract: each arm is one clause of the definition.
-use mathlib.Core.Path.{sym, _∙_, ap}
-use Rattle.cases.specs.State.{takenFrame, caseRefusal, caseNext}
+-- `cases::Case::step` meets its contract: 4 out of order; otherwise each arm takes the fields of its kind.
+use mathlib.Core.Path.{_≡_, sym, _∙_, ap}
+use borrow.Author.Tests.{not-true, not-false}
+use Rattle.frames.specs.declared.Frame.{Frame}
+use Rattle.cases.specs.declared.Taken.{Taken}
+use Rattle.cases.specs.State.{takenInOrder, takenFrame}
+use Rattle.cases.proofs.TakingLaws.{in-order-taken, out-of-order}
 use borrow.Author.Needs.{needs}
 use Rattle.cases.proofs.Case.step.Statement.{statement}
 use Rattle.cases.proofs.Case.step.Tie as tie
+
+-- a frame in its order is taken by its fields, whichever its kind
+taken-in-order : (c : tie.Else1) {t : Taken} {f : Frame} → t ≡ takenInOrder (c .before .before .args .self) f → c .before .before .args .frame ≡ f → t ≡ takenFrame (c .before .before .args .self) (c .before .before .args .frame)
+taken-in-order c e is = e ∙ ap (takenInOrder (c .before .before .args .self)) (sym is) ∙ in-order-taken _ _ (sym (c .before .is-in-order .ensures) ∙ not-false _ (c .if1 .left))
+
+is-in-order-requires : tie.Need-is-in-order-requires
+is-in-order-requires c κs = search needs
+
+returns : tie.Need-returns
+returns c = out-of-order _ _ (sym (c .before .is-in-order .ensures) ∙ not-true _ (c .if1 .taken))
 
 enum-known-frame : tie.Need-enum-known-frame
 enum-known-frame c = search needs
@@ -41,34 +55,30 @@ enum-known-frame-6 c = search needs
 take-debit-requires : tie.Need-take-debit-requires
 take-debit-requires c κs = search needs
 
-returns : tie.Need-returns
-unfolding takenFrame caseRefusal caseNext
-returns c = c .take-member .ensures ∙ ap (takenFrame (c .before .before .before .before .args .self)) (sym (c .before .before .frame .given .1))
-
 returns-2 : tie.Need-returns-2
-unfolding takenFrame caseRefusal caseNext
-returns-2 c = c .take-year .ensures ∙ ap (takenFrame (c .before .before .before .before .args .self)) (sym (c .before .before .frame2 .given .1))
+returns-2 c = taken-in-order (c .before .before .before .before) (c .take-member .ensures) (c .before .before .frame .given .1)
 
 returns-3 : tie.Need-returns-3
-unfolding takenFrame caseRefusal caseNext
-returns-3 c = c .take-post .ensures ∙ ap (takenFrame (c .before .before .before .before .args .self)) (sym (c .before .before .frame3 .given .1))
+returns-3 c = taken-in-order (c .before .before .before .before) (c .take-year .ensures) (c .before .before .frame2 .given .1)
 
 returns-4 : tie.Need-returns-4
-unfolding takenFrame caseRefusal caseNext
-returns-4 c = c .take-pay .ensures ∙ ap (takenFrame (c .before .before .before .before .args .self)) (sym (c .before .before .frame4 .given .1))
+returns-4 c = taken-in-order (c .before .before .before .before) (c .take-post .ensures) (c .before .before .frame3 .given .1)
 
 returns-5 : tie.Need-returns-5
-unfolding takenFrame caseRefusal caseNext
-returns-5 c = c .take-factor .ensures ∙ ap (takenFrame (c .before .before .before .before .args .self)) (sym (c .before .before .frame5 .given .1))
+returns-5 c = taken-in-order (c .before .before .before .before) (c .take-pay .ensures) (c .before .before .frame4 .given .1)
 
 returns-6 : tie.Need-returns-6
-unfolding takenFrame caseRefusal caseNext
-returns-6 c = c .take-debit .ensures ∙ ap (takenFrame (c .before .before .before .before .args .self)) (sym (c .before .before .frame6 .given .1))
+returns-6 c = taken-in-order (c .before .before .before .before) (c .take-factor .ensures) (c .before .before .frame5 .given .1)
+
+returns-7 : tie.Need-returns-7
+returns-7 c = taken-in-order (c .before .before .before .before) (c .take-debit .ensures) (c .before .before .frame6 .given .1)
 
 pub step-spec : {M : Type 1} → statement M
 step-spec =
     tie.close
     (tie.spec
+    is-in-order-requires
+    returns
     enum-known-frame
     take-member-requires
     enum-known-frame-2
@@ -81,9 +91,9 @@ step-spec =
     take-factor-requires
     enum-known-frame-6
     take-debit-requires
-    returns
     returns-2
     returns-3
     returns-4
     returns-5
-    returns-6)
+    returns-6
+    returns-7)

@@ -22,18 +22,20 @@ refusal-in-requires c κs = search needs
 returns : tie.Need-returns
 unfolding refusalIn
 returns c =
-    let s = c .before .before .before .before .before in
+    let read = c .before .before .before in
+    let s = read .before .before in
     let told = c .before .enum-told .given .1 in
-    let e = sym told ∙ c .before .before .before .decode .ensures in
-    taken-from _ _ _ (s .pre) (no-frame-taken _ _ _ (c .refusal-in .ensures ∙ ap refusalIn told) ∙ ap (takenDecoded (s .args .self)) e)
+    taken-from _ _ _ (s .pre) (no-frame-taken _ _ _ (c .refusal-in .ensures ∙ ap refusalIn told) ∙ ap (takenDecoded (s .args .self)) (sym told ∙ read .decode .ensures))
 
 step-requires : tie.Need-step-requires
-step-requires c κs = case-bounds _ (c .before .before .before .before .before .pre)
+step-requires c κs = let read = c .before .before .before in case-bounds _ (read .before .before .pre)
 
 returns-2 : tie.Need-returns-2
 returns-2 c =
-    let s = c .before .before .before .before .before .before in
-    taken-from _ _ _ (s .pre) (c .step .ensures ∙ frame-taken _ _ ∙ ap (takenDecoded (s .args .self)) (sym (c .before .before .read .given .1) ∙ c .before .before .before .before .decode .ensures))
+    let frame = c .before .before in
+    let read = frame .before .before in
+    let s = read .before .before in
+    taken-from _ _ _ (s .pre) (c .step .ensures ∙ frame-taken _ _ ∙ ap (takenDecoded (s .args .self)) (sym (frame .read .given .1) ∙ read .decode .ensures))
 
 pub take-spec : {M : Type 1} → statement M
 take-spec =

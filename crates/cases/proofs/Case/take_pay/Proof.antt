@@ -1,20 +1,22 @@
--- `cases::Case::take_pay` meets its contract: refused, the case is handed back unchanged; otherwise it is advanced by the frame.
+-- `cases::Case::take_pay` meets its contract: what the section hand back, and the stage by their refusal.
 use mathlib.Core.Path.{refl}
-use Rattle.cases.specs.State.{withPay}
-use Rattle.cases.proofs.TakingLaws.{handed-refused, handed-accepted}
+use Rattle.measures.specs.Tries.{tried}
+use Rattle.section.specs.Section.{payTaken}
+use Rattle.cases.specs.State.{atSection, caseFields, caseNext, takenInOrder}
+use Rattle.cases.proofs.TakingLaws.{part-handed}
 use borrow.Author.Needs.{needs}
 use Rattle.cases.proofs.Case.take_pay.Statement.{statement}
 use Rattle.cases.proofs.Case.take_pay.Tie as tie
 
-refusal-of-pay-requires : tie.Need-refusal-of-pay-requires
-refusal-of-pay-requires c κs = search needs
+take-pay-requires : tie.Need-take-pay-requires
+take-pay-requires c κs = search needs
+
+stage-after-requires : tie.Need-stage-after-requires
+stage-after-requires c κs = search needs
 
 returns : tie.Need-returns
-returns c = handed-refused _ _ (c .before .refusal-of-pay .ensures) (c .if1 .taken)
-
-returns-2 : tie.Need-returns-2
-unfolding withPay
-returns-2 c = handed-accepted _ _ (c .before .refusal-of-pay .ensures) (c .if1 .left) refl
+unfolding takenInOrder caseFields caseNext payTaken tried
+returns c = rw (c .stage-after .ensures, c .before .before .take-pay .ensures) (let s = c .before .before .before .args .self in part-handed s (atSection s) 3 (s .section) _ _ refl)
 
 pub take-pay-spec : {M : Type 1} → statement M
-take-pay-spec = tie.close (tie.spec refusal-of-pay-requires returns returns-2)
+take-pay-spec = tie.close (tie.spec take-pay-requires stage-after-requires returns)

@@ -1,24 +1,22 @@
--- `cases::Case::take_post` meets its contract: refused, the case is handed back unchanged; otherwise it is advanced by the frame.
-use mathlib.Core.Path.{sym, _∙_}
-use Rattle.tallies.proofs.TakingLaws.{post-passed}
-use Rattle.cases.specs.State.{withPost}
-use Rattle.cases.proofs.TakingLaws.{handed-refused, handed-accepted}
+-- `cases::Case::take_post` meets its contract: what the years hand back, and the stage by their refusal.
+use mathlib.Core.Path.{refl}
+use Rattle.measures.specs.Tries.{tried}
+use Rattle.years.specs.Years.{postTaken}
+use Rattle.cases.specs.State.{atYears, caseFields, caseNext, withYearsTaken, takenInOrder}
+use Rattle.cases.proofs.TakingLaws.{part-handed}
 use borrow.Author.Needs.{needs}
 use Rattle.cases.proofs.Case.take_post.Statement.{statement}
 use Rattle.cases.proofs.Case.take_post.Tie as tie
 
-refusal-of-post-requires : tie.Need-refusal-of-post-requires
-refusal-of-post-requires c κs = search needs
+take-post-requires : tie.Need-take-post-requires
+take-post-requires c κs = search needs
+
+with-years-requires : tie.Need-with-years-requires
+with-years-requires c κs = search needs
 
 returns : tie.Need-returns
-returns c = handed-refused _ _ (c .before .refusal-of-post .ensures) (c .if1 .taken)
-
-joined-requires : tie.Need-joined-requires
-joined-requires c κs = (c .before .before .pre .posts, post-passed _ _ _ (sym (c .before .refusal-of-post .ensures) ∙ c .if1 .left))
-
-returns-2 : tie.Need-returns-2
-unfolding withPost
-returns-2 c = handed-accepted _ _ (c .before .before .refusal-of-post .ensures) (c .before .if1 .left) (rw (c .joined .ensures))
+unfolding takenInOrder caseFields caseNext withYearsTaken postTaken tried
+returns c = rw (c .with-years .ensures, c .before .take-post .ensures) (let s = c .before .before .args .self in part-handed s (atYears s) 2 (s .years) _ _ refl)
 
 pub take-post-spec : {M : Type 1} → statement M
-take-post-spec = tie.close (tie.spec refusal-of-post-requires returns joined-requires returns-2)
+take-post-spec = tie.close (tie.spec take-post-requires with-years-requires returns)

@@ -1,30 +1,22 @@
--- `cases::Case::take_year` meets its contract: refused, the case is handed back unchanged; otherwise it is advanced by the frame.
-use Rattle.cases.specs.State.{pensionNow, withYear}
-use Rattle.cases.proofs.TakingLaws.{handed-refused, handed-accepted}
+-- `cases::Case::take_year` meets its contract: what the years hand back, and the stage by their refusal.
+use mathlib.Core.Path.{refl}
+use Rattle.measures.specs.Tries.{tried}
+use Rattle.years.specs.Years.{yearTaken}
+use Rattle.cases.specs.State.{atYears, caseFields, caseNext, withYearsTaken, takenInOrder}
+use Rattle.cases.proofs.TakingLaws.{part-handed}
 use borrow.Author.Needs.{needs}
 use Rattle.cases.proofs.Case.take_year.Statement.{statement}
 use Rattle.cases.proofs.Case.take_year.Tie as tie
 
-refusal-of-year-requires : tie.Need-refusal-of-year-requires
-refusal-of-year-requires c κs = search needs
+take-year-requires : tie.Need-take-year-requires
+take-year-requires c κs = search needs
+
+with-years-requires : tie.Need-with-years-requires
+with-years-requires c κs = search needs
 
 returns : tie.Need-returns
-returns c = handed-refused _ _ (c .before .refusal-of-year .ensures) (c .if1 .taken)
-
-pension-with-requires : tie.Need-pension-with-requires
-pension-with-requires c κs = let b = c .before .before .pre in (b .service, b .posts)
-
-add-t8 : tie.Need-add-t8
-add-t8 c = search needs
-
-none-requires : tie.Need-none-requires
-none-requires c κs = search needs
-
-returns-2 : tie.Need-returns-2
-unfolding withYear pensionNow
-returns-2 c = handed-accepted _ _ (c .before .before .before .before .refusal-of-year .ensures) (c .before .before .before .if1 .left) (rw (← (c .before .before .pension-with .ensures), c .none .ensures))
+unfolding takenInOrder caseFields caseNext withYearsTaken yearTaken tried
+returns c = rw (c .with-years .ensures, c .before .take-year .ensures) (let s = c .before .before .args .self in part-handed s (atYears s) 2 (s .years) _ _ refl)
 
 pub take-year-spec : {M : Type 1} → statement M
-take-year-spec =
-    tie.close
-    (tie.spec refusal-of-year-requires returns pension-with-requires add-t8 none-requires returns-2)
+take-year-spec = tie.close (tie.spec take-year-requires with-years-requires returns)

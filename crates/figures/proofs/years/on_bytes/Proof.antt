@@ -6,6 +6,9 @@ use borrow.Author.Needs.{needs}
 use Rattle.figures.proofs.years.on_bytes.Statement.{statement}
 use Rattle.figures.proofs.years.on_bytes.Tie as tie
 
+lent-places-requires : tie.Need-lent-places-requires
+lent-places-requires c κs = search needs
+
 array-borrow-prefix-list : tie.Need-array-borrow-prefix-list
 array-borrow-prefix-list c = search needs
 
@@ -28,6 +31,7 @@ pub on-bytes-spec : {M : Type 1} → statement M
 on-bytes-spec =
     tie.close
     (tie.spec
+    lent-places-requires
     array-borrow-prefix-list
     slice-aggregate-posts-call
     posts-call-requires

@@ -2,6 +2,7 @@
 use Prim.Native.Nat.{_-_}
 use mathlib.Core.Path.{refl}
 use native.Mathlib.Omega.{arith}
+use Rattle.posts.specs.Limits.{tooManyPosts}
 use Rattle.figures.proofs.Numbers.{Reading, post-more, posts-all}
 use Rattle.figures.proofs.years.posts_in.Statement.{statement}
 use Rattle.figures.proofs.years.posts_in.Tie as tie
@@ -10,7 +11,7 @@ abbrev Inv-loop : tie.InvT-loop
 Inv-loop numbers list₀ i₀ list i = Reading numbers list i
 
 abbrev μ-loop : tie.MeasureT-loop
-μ-loop numbers list₀ i₀ list i = 17 - i
+μ-loop numbers list₀ i₀ list i = tooManyPosts - i
 
 post-requires : tie.Need-post-requires Inv-loop μ-loop
 post-requires c κs = omega arith
@@ -40,7 +41,9 @@ loop-less : tie.Need-loop-less Inv-loop μ-loop
 loop-less c = omega arith
 
 loop-again : tie.Need-loop-again Inv-loop μ-loop
-loop-again c = post-more (c .before .before .before .loop .inv) (c .before .before .before .before .before .before .good .0 .1 .0 .1) (omega arith) (c .post2 .ensures)
+loop-again c =
+    let l = c .before .before .before in
+    post-more (l .loop .inv) (l .before .before .before .good .0 .1 .0 .1) (omega arith) (c .post2 .ensures)
 
 returns : tie.Need-returns Inv-loop μ-loop
 returns c = posts-all (c .before .loop .inv) (c .before .before .before .before .good .0 .1 .0 .1) (omega arith)

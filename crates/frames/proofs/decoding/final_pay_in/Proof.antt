@@ -1,37 +1,47 @@
 -- `frames::decoding::final_pay_in` meets its contract: each field at its place.
-use Rattle.frames.specs.Frames.{finalPayIn}
+use Rattle.frames.specs.Frames.{finalPayIn, frameLength}
 use borrow.Author.Needs.{needs}
 use Rattle.frames.proofs.decoding.final_pay_in.Statement.{statement}
 use Rattle.frames.proofs.decoding.final_pay_in.Tie as tie
 
 four-at-requires : tie.Need-four-at-requires
+unfolding frameLength
 four-at-requires c κs = search needs
 
 four-at-requires-2 : tie.Need-four-at-requires-2
+unfolding frameLength
 four-at-requires-2 c κs = search needs
 
 four-at-requires-3 : tie.Need-four-at-requires-3
+unfolding frameLength
 four-at-requires-3 c κs = search needs
 
 four-at-requires-4 : tie.Need-four-at-requires-4
+unfolding frameLength
 four-at-requires-4 c κs = search needs
 
 two-at-requires : tie.Need-two-at-requires
+unfolding frameLength
 two-at-requires c κs = search needs
 
 two-at-requires-2 : tie.Need-two-at-requires-2
+unfolding frameLength
 two-at-requires-2 c κs = search needs
 
 two-at-requires-3 : tie.Need-two-at-requires-3
+unfolding frameLength
 two-at-requires-3 c κs = search needs
 
 one-at-requires : tie.Need-one-at-requires
+unfolding frameLength
 one-at-requires c κs = search needs
 
 two-at-requires-4 : tie.Need-two-at-requires-4
+unfolding frameLength
 two-at-requires-4 c κs = search needs
 
 two-at-requires-5 : tie.Need-two-at-requires-5
+unfolding frameLength
 two-at-requires-5 c κs = search needs
 
 returns : tie.Need-returns

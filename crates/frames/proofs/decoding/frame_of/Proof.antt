@@ -7,11 +7,9 @@ use Rattle.frames.proofs.decoding.frame_of.Statement.{statement}
 use Rattle.frames.proofs.decoding.frame_of.Tie as tie
 
 member-in-requires : tie.Need-member-in-requires
-unfolding frameLength
 member-in-requires c κs = c .before .before .pre ∙ ap frameLength (c .match .keys1)
 
 year-in-requires : tie.Need-year-in-requires
-unfolding frameLength
 year-in-requires c κs = c .before .before .pre ∙ ap frameLength (c .match .keys2)
 
 post-at-requires : tie.Need-post-at-requires
@@ -19,15 +17,12 @@ unfolding frameLength
 post-at-requires c κs = omega (arith, c .before .before .pre ∙ ap frameLength (c .match .keys3))
 
 final-pay-in-requires : tie.Need-final-pay-in-requires
-unfolding frameLength
 final-pay-in-requires c κs = c .before .before .pre ∙ ap frameLength (c .match .keys4)
 
 factor-in-requires : tie.Need-factor-in-requires
-unfolding frameLength
 factor-in-requires c κs = c .before .before .pre ∙ ap frameLength (c .match .keys5)
 
 debit-in-requires : tie.Need-debit-in-requires
-unfolding frameLength
 debit-in-requires c κs = c .before .before .pre ∙ ap frameLength (c .match .keys6)
 
 returns : tie.Need-returns

@@ -1,19 +1,23 @@
 -- `frames::decoding::member_in` meets its contract: each field at its place.
-use Rattle.frames.specs.Frames.{memberIn}
+use Rattle.frames.specs.Frames.{memberIn, frameLength}
 use borrow.Author.Needs.{needs}
 use Rattle.frames.proofs.decoding.member_in.Statement.{statement}
 use Rattle.frames.proofs.decoding.member_in.Tie as tie
 
 date-at-requires : tie.Need-date-at-requires
+unfolding frameLength
 date-at-requires c κs = search needs
 
 date-at-requires-2 : tie.Need-date-at-requires-2
+unfolding frameLength
 date-at-requires-2 c κs = search needs
 
 one-at-requires : tie.Need-one-at-requires
+unfolding frameLength
 one-at-requires c κs = search needs
 
 one-at-requires-2 : tie.Need-one-at-requires-2
+unfolding frameLength
 one-at-requires-2 c κs = search needs
 
 returns : tie.Need-returns

@@ -1,13 +1,15 @@
 -- `frames::decoding::year_in` meets its contract: each field at its place.
-use Rattle.frames.specs.Frames.{yearIn}
+use Rattle.frames.specs.Frames.{yearIn, frameLength}
 use borrow.Author.Needs.{needs}
 use Rattle.frames.proofs.decoding.year_in.Statement.{statement}
 use Rattle.frames.proofs.decoding.year_in.Tie as tie
 
 two-at-requires : tie.Need-two-at-requires
+unfolding frameLength
 two-at-requires c κs = search needs
 
 two-at-requires-2 : tie.Need-two-at-requires-2
+unfolding frameLength
 two-at-requires-2 c κs = search needs
 
 returns : tie.Need-returns

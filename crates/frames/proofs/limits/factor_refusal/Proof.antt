@@ -12,6 +12,13 @@ use Rattle.frames.proofs.limits.factor_refusal.Tie as tie
 stood : (c : tie.Else1) → schemeStands (c .before .before .args .f .scheme) (c .before .before .args .section) ≡ true
 stood c = sym (c .before .scheme-stands .ensures) ∙ not-false _ (c .if1 .left)
 
+-- back to it from the months, and to them from the factors
+abbrev before-months : tie.Else3 → tie.Else1
+before-months c = c .before .before .before .before
+
+abbrev before-factors : tie.Else5 → tie.Else3
+before-factors c = c .before .before .before .before
+
 scheme-stands-requires : tie.Need-scheme-stands-requires
 scheme-stands-requires c κs = search needs
 
@@ -29,23 +36,23 @@ returns-3 c = search (tests, stood (c .before .before .before .before))
 
 returns-4 : tie.Need-returns-4
 unfolding factorRefusal
-returns-4 c = search (tests, stood (c .before .before .before .before .before .before))
+returns-4 c = search (tests, stood (before-months (c .before .before)))
 
 returns-5 : tie.Need-returns-5
 unfolding factorRefusal
-returns-5 c = search (tests, stood (c .before .before .before .before .before .before .before .before))
+returns-5 c = search (tests, stood (before-months (c .before .before .before .before)))
 
 returns-6 : tie.Need-returns-6
 unfolding factorRefusal
-returns-6 c = search (tests, stood (c .before .before .before .before .before .before .before .before .before .before))
+returns-6 c = search (tests, stood (before-months (before-factors (c .before .before))))
 
 returns-7 : tie.Need-returns-7
 unfolding factorRefusal
-returns-7 c = search (tests, stood (c .before .before .before .before .before .before .before .before .before .before .before .before))
+returns-7 c = search (tests, stood (before-months (before-factors (c .before .before .before .before))))
 
 returns-8 : tie.Need-returns-8
 unfolding factorRefusal
-returns-8 c = search (tests, stood (c .before .before .before .before .before .before .before .before .before .before .before .before))
+returns-8 c = search (tests, stood (before-months (before-factors (c .before .before .before .before))))
 
 pub factor-refusal-spec : {M : Type 1} → statement M
 factor-refusal-spec =

@@ -52,8 +52,12 @@ loop-less c = simp length-set (omega arith)
 
 loop-again : tie.Need-loop-again Inv-loop μ-loop
 loop-again c =
-    put-more (c .before .before .before .before .before .before .before .loop .inv)
-    (pair-more (c .before .before .before .before .before .before .before .before .before .before .args .text .now) (c .before .before .before .before .before .before .before .loop .n) (omega (arith, ltb-true)) (sym (c .before .before .are-digits .ensures) ∙ c .before .if2 .taken))
+    let pair = c .before .before in
+    let tests = pair .before .before in
+    let l = tests .before .before .before in
+    let s = l .before .before .before in
+    put-more (l .loop .inv)
+    (pair-more (s .args .text .now) (l .loop .n) (omega (arith, ltb-true)) (sym (pair .are-digits .ensures) ∙ c .before .if2 .taken))
     (c .byte-of .ensures)
     (omega arith)
 
@@ -62,14 +66,21 @@ same-length c = omega arith
 
 returns : tie.Need-returns Inv-loop μ-loop
 returns c =
-    put-all (c .before .before .before .before .before .before .loop .inv)
-    (pair-other (c .before .before .before .before .before .before .before .before .before .args .text .now) (c .before .before .before .before .before .before .loop .n) (omega (arith, ltb-true)) (sym (c .before .are-digits .ensures) ∙ c .if2 .left))
+    let pair = c .before in
+    let tests = pair .before .before in
+    let l = tests .before .before .before in
+    let s = l .before .before .before in
+    put-all (l .loop .inv)
+    (pair-other (s .args .text .now) (l .loop .n) (omega (arith, ltb-true)) (sym (pair .are-digits .ensures) ∙ c .if2 .left))
 
 same-length-2 : tie.Need-same-length-2 Inv-loop μ-loop
 same-length-2 c = omega arith
 
 returns-2 : tie.Need-returns-2 Inv-loop μ-loop
-returns-2 c = put-all (c .before .before .loop .inv) (pair-none (c .before .before .before .before .before .args .text .now) (c .before .before .loop .n) (omega (arith, ltb-false)))
+returns-2 c =
+    let l = c .before .before in
+    let s = l .before .before .before in
+    put-all (l .loop .inv) (pair-none (s .args .text .now) (l .loop .n) (omega (arith, ltb-false)))
 
 same-length-3 : tie.Need-same-length-3 Inv-loop μ-loop
 same-length-3 c = omega arith

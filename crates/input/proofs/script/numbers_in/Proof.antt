@@ -51,8 +51,11 @@ loop-less c = search needs
 
 loop-again : tie.Need-loop-again Inv-loop μ-loop
 loop-again c =
-    put-more (c .before .before .before .before .before .loop .inv)
-    (next-number (c .before .before .before .before .before .before .before .before .args .text .now) (c .before .before .before .before .before .loop .at) (c .before .before .end-at .result) (omega arith) (c .before .before .end-at .ensures))
+    let ended = c .before .before in
+    let l = ended .before .before .before in
+    let s = l .before .before .before in
+    put-more (l .loop .inv)
+    (next-number (s .args .text .now) (l .loop .at) (ended .end-at .result) (omega arith) (ended .end-at .ensures))
     (c .number-in .ensures)
     (omega (arith, ltb-true))
 

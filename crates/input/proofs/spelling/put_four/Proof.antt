@@ -21,7 +21,10 @@ same-length c = search needs
 
 returns : tie.Need-returns
 unfolding fourBytes twoBytes
-returns c = put-then _ _ _ _ _ (c .before .before .before .before .before .before .put-two .ensures) (c .before .before .put-two2 .ensures) refl (omega arith)
+returns c =
+    let low = c .before .before in
+    let high = low .before .before .before .before in
+    put-then _ _ _ _ _ (high .put-two .ensures) (low .put-two2 .ensures) refl (omega arith)
 
 pub put-four-spec : {M : Type 1} → statement M
 put-four-spec =

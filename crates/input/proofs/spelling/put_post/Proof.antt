@@ -28,7 +28,10 @@ same-length c = search needs
 returns : tie.Need-returns
 unfolding postBytes twoBytes
 returns c =
-    put-then _ _ _ _ _ (put-then _ _ _ _ _ (c .before .before .before .before .before .before .before .before .before .before .put-two .ensures) (c .before .before .before .before .before .before .put-two2 .ensures) refl (omega arith)) (c .before .before .put-four .ensures) refl (omega arith)
+    let pay = c .before .before in
+    let whole = pay .before .before .before .before in
+    let contracted = whole .before .before .before .before in
+    put-then _ _ _ _ _ (put-then _ _ _ _ _ (contracted .put-two .ensures) (whole .put-two2 .ensures) refl (omega arith)) (pay .put-four .ensures) refl (omega arith)
 
 pub put-post-spec : {M : Type 1} → statement M
 put-post-spec =

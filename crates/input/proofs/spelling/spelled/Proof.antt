@@ -2,6 +2,7 @@
 use Prim.Native.Nat.{_-_}
 use mathlib.Core.Path.{refl, sym}
 use native.Mathlib.Omega.{arith}
+use Rattle.posts.specs.Limits.{tooManyPosts}
 use Rattle.posts.specs.Year.{noPost}
 use Rattle.input.proofs.Posts.{Spelling, post-more, posts-all}
 use Rattle.input.proofs.spelling.spelled.Statement.{statement}
@@ -11,7 +12,7 @@ abbrev Inv-loop : tie.InvT-loop
 Inv-loop list bytes₀ i₀ bytes i = Spelling list bytes i
 
 abbrev μ-loop : tie.MeasureT-loop
-μ-loop list bytes₀ i₀ bytes i = 17 - i
+μ-loop list bytes₀ i₀ bytes i = tooManyPosts - i
 
 loop-holds : tie.Need-loop-holds Inv-loop μ-loop
 loop-holds c = record { few = omega arith; room = refl; is = refl }
@@ -38,7 +39,10 @@ loop-less : tie.Need-loop-less Inv-loop μ-loop
 loop-less c = omega arith
 
 loop-again : tie.Need-loop-again Inv-loop μ-loop
-loop-again c = post-more (c .before .before .before .before .before .loop .inv) noPost (c .before .before .before .before .before .before .good .0 .1 .0 .1) (omega arith) (omega arith) (c .before .put-post .ensures)
+loop-again c =
+    let put = c .before in
+    let l = put .before .before .before .before in
+    post-more (l .loop .inv) noPost (l .before .good .0 .1 .0 .1) (omega arith) (omega arith) (put .put-post .ensures)
 
 returns : tie.Need-returns Inv-loop μ-loop
 returns c = posts-all (c .before .loop .inv) (c .before .before .good .0 .1 .0 .1) (omega arith)

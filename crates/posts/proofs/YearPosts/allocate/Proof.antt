@@ -41,15 +41,19 @@ mul-parts : tie.Need-mul-parts Inv-loop μ-loop
 mul-parts c = search needs
 
 array-write-parts : tie.Need-array-write-parts Inv-loop μ-loop
-array-write-parts c = omega (arith, c .before .before .before .before .before .before .pre .few)
+array-write-parts c = let l = c .before .before .before .before in omega (arith, l .before .before .pre .few)
 
 add-aggregate : tie.Need-add-aggregate Inv-loop μ-loop
 add-aggregate c =
-    let l = c .before .before .before .before .before .before in
-    omega (arith, l .before .before .pre .few, l .loop .inv .most, c .before .before .pay-for .ensures .1)
+    let k = c .before .before in
+    let l = k .before .before .before .before in
+    omega (arith, l .before .before .pre .few, l .loop .inv .most, k .pay-for .ensures .1)
 
 add-i : tie.Need-add-i Inv-loop μ-loop
-add-i c = omega (arith, c .before .before .before .before .before .before .before .before .pre .few)
+add-i c =
+    let k = c .before .before in
+    let l = k .before .before .before .before in
+    omega (arith, l .before .before .pre .few)
 
 loop-less : tie.Need-loop-less Inv-loop μ-loop
 loop-less c = search needs

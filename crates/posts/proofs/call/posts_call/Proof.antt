@@ -1,75 +1,69 @@
 -- `posts::call::posts_call` meets its contract.
-use mathlib.Core.Path.{sym, _∙_, ap}
-use Prim.Native.Nat.{_/_}
-use mathlib.Core.List.{List, _++_}
-use lib.ListN.{length, drop}
-use Rattle.posts.specs.declared.Post.{Post}
-use Rattle.posts.specs.Posts.{parts, aggregatePay}
+use mathlib.Core.Path.{_≡_, sym, _∙_}
+use Prim.Native.Nat.{_/_, _%_}
+use lib.ListN.{length}
+use Rattle.posts.specs.Limits.{bytesOfPost}
+use Rattle.posts.specs.Lent.{lengthsRefusal}
 use Rattle.posts.specs.Call.{postsIn}
-use Rattle.posts.proofs.Standing.{posts-count}
-use Rattle.posts.proofs.Calling.{from-length, lengths-many, lengths-short, lengths-fit, call-uneven, call-lengths, call-refused, call-accepted}
+use Rattle.posts.proofs.ReadingLaws.{lengths-few}
+use Rattle.posts.proofs.Calling.{call-uneven, call-lengths, call-refused, call-finishing, call-given}
 use borrow.Author.Needs.{needs}
 use native.Mathlib.Omega.{arith}
 use Rattle.posts.proofs.call.posts_call.Statement.{statement}
 use Rattle.posts.proofs.call.posts_call.Tie as tie
+
+-- the bytes are whole posts, and their number is not refused
+abbrev start : tie.Else2 → tie.Start
+start c = let even = c .before .before in even .before .before .before
+
+even : (c : tie.Else2) → length (start c .args .bytes .now) % bytesOfPost ≡ 0
+even c = c .before .before .if1 .left
+
+fit : (c : tie.Else2) → lengthsRefusal (length (start c .args .bytes .now) / bytesOfPost) (length (start c .args .places .now)) ≡ 0
+fit c = sym (c .before .lengths-refusal .ensures) ∙ c .if2 .left
 
 returns : tie.Need-returns
 returns c =
     let s = c .before .before .before in
     call-refused (s .args .bytes .now) (s .args .places .now) 23 (call-uneven _ _ (c .if1 .taken)) (omega arith)
 
+lengths-refusal-requires : tie.Need-lengths-refusal-requires
+lengths-refusal-requires c κs = search needs
+
 returns-2 : tie.Need-returns-2
 returns-2 c =
-    let s = c .before .before .before .before in
-    call-refused (s .args .bytes .now) (s .args .places .now) 21 (call-lengths _ _ (c .before .if1 .left) 21 (lengths-many _ _ (c .if2 .taken))) (omega arith)
-
-returns-3 : tie.Need-returns-3
-returns-3 c =
-    let s = c .before .before .before .before .before in
-    call-refused (s .args .bytes .now) (s .args .places .now) 22 (call-lengths _ _ (c .before .before .if1 .left) 22 (lengths-short _ _ (c .before .if2 .left) (c .if3 .taken))) (omega arith)
+    let even = c .before .before in
+    let s = even .before .before .before in
+    call-refused (s .args .bytes .now) (s .args .places .now) _ (call-lengths _ _ (even .if1 .left) _ (c .before .lengths-refusal .ensures) (c .if2 .taken)) (c .if2 .taken)
 
 read-posts-requires : tie.Need-read-posts-requires
-read-posts-requires c κs = (c .before .if2 .left, omega arith)
+read-posts-requires c κs = (lengths-few _ _ (fit c), omega arith)
 
-returns-4 : tie.Need-returns-4
+reading-finished-requires : tie.Need-reading-finished-requires
 unfolding postsIn
-returns-4 c =
-    let t = c .before .before .before in
-    let s = t .before .before .before .before .before in
-    call-refused (s .args .bytes .now) (s .args .places .now) _
-    (call-lengths _ _ (t .before .before .if1 .left) 0 (lengths-fit _ _ (t .before .if2 .left) (t .if3 .left)) ∙ sym (c .before .before .read-posts .ensures .refusal)) (c .if4 .taken)
-
-allocate-into-requires : tie.Need-allocate-into-requires
-allocate-into-requires c κs =
-    let t = c .before .before .before .before in
-    let s = t .before .before .before .before .before .before in
-    let e = t .read-posts .ensures in
-    (e .held, omega (arith, t .before .if3 .left, posts-count (t .read-posts .result .year) (e .held), ap length (e .posts (c .before .before .if4 .left)), from-length (s .args .bytes .now) 0 (length (s .args .bytes .now) / 8)))
+reading-finished-requires c κs =
+    let fits = c .before .before in
+    call-finishing (start fits .args .bytes .now) (start fits .args .places .now) (even fits) (fit fits) _ (c .before .read-posts .ensures)
 
 same-length : tie.Need-same-length
 same-length c = search needs
 
-returns-5 : tie.Need-returns-5
+returns-3 : tie.Need-returns-3
 unfolding postsIn
-returns-5 c =
-    let t = c .before .before .before .before .before .before .before in
-    let s = t .before .before .before .before .before .before in
-    let e = t .read-posts .ensures in
-    let i = c .before .before .before .before .before .if4 .left in
-    let a = c .before .before .allocate-into .ensures in
-    call-accepted (s .args .bytes .now) (s .args .places .now) _
-    (call-lengths _ _ (t .before .before .before .if1 .left) 0 (lengths-fit _ _ (t .before .before .if2 .left) (t .before .if3 .left)) ∙ sym (e .refusal)) i _ _
-    (a .0 ∙ ap aggregatePay (e .posts i)) (a .1 ∙ ap (λ (xs : List Post). parts xs ++ drop (length xs) (s .args .places .now)) (e .posts i))
+returns-3 c =
+    let finished = c .before .before in
+    let read = finished .before .before in
+    let fits = read .before in
+    call-given (start fits .args .bytes .now) (start fits .args .places .now) (even fits) (fit fits) _ (read .read-posts .ensures) _ _ (finished .reading-finished .ensures)
 
 pub posts-call-spec : {M : Type 1} → statement M
 posts-call-spec =
     tie.close
     (tie.spec
     returns
+    lengths-refusal-requires
     returns-2
-    returns-3
     read-posts-requires
-    returns-4
-    allocate-into-requires
+    reading-finished-requires
     same-length
-    returns-5)
+    returns-3)

@@ -32,7 +32,10 @@ print-decimal-requires : tie.Need-print-decimal-requires
 print-decimal-requires c κs = search needs
 
 returns : tie.Need-returns
-returns c = handed-one _ _ (c .before .before .before .before .before .before .before .bytes-in .ensures) (c .before .before .before .before .before .before .before .before .before .buffer .ensures) (c .before .before .before .before .take .ensures)
+returns c =
+    let taken = c .before .before .before .before in
+    let put = taken .before .before .before in
+    handed-one _ _ (put .bytes-in .ensures) (put .before .before .buffer .ensures) (taken .take .ensures)
 
 pub list-spec : {M : Type 1} → statement M
 list-spec =

@@ -2,7 +2,7 @@
 use mathlib.Core.Path.{_∙_}
 use lib.ListN.{length-append}
 use Rattle.texts.specs.Printed.{printedOf}
-use Rattle.texts.proofs.Writing.{length-digits, joined}
+use Rattle.texts.proofs.Writing.{length-digits, extended-twice}
 use borrow.Author.Needs.{needs}
 use Rattle.texts.proofs.printing.printed.Statement.{statement}
 use Rattle.texts.proofs.printing.printed.Tie as tie
@@ -51,9 +51,9 @@ returns c =
     let net1995 = lump .before in
     let net2015 = net1995 .before in
     let kind = net2015 .before in
-    let whole =
-    joined (joined (joined (joined (joined (kind .with-number .ensures) (net2015 .with-number2 .ensures)) (net1995 .with-number3 .ensures))
-    (lump .with-number4 .ensures)) (charge .with-number5 .ensures)) (c .with-end .ensures) in
+    let pensions = extended-twice (extended-twice (kind .with-number .ensures) (net2015 .with-number2 .ensures)) (net1995 .with-number3 .ensures) in
+    let amounts = extended-twice (extended-twice pensions (lump .with-number4 .ensures)) (charge .with-number5 .ensures) in
+    let whole = extended-twice amounts (c .with-end .ensures) in
     rw (kind .before .before .outcome .given .1) record {
       count = whole .count ∙ simp (length-append, length-digits);
       bytes = whole .bytes;
@@ -67,7 +67,7 @@ returns-2 c =
     let number = line .before in
     let kind = number .before in
     let whole =
-    joined (joined (joined (kind .with-number6 .ensures) (number .with-number7 .ensures)) (line .with-number8 .ensures))
+    extended-twice (extended-twice (extended-twice (kind .with-number6 .ensures) (number .with-number7 .ensures)) (line .with-number8 .ensures))
     (c .with-end2 .ensures) in
     rw (kind .before .before .outcome2 .given .1) record {
       count = whole .count ∙ simp (length-append, length-digits);

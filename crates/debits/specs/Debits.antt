@@ -1,0 +1,73 @@
+-- Scheme Pays debits, as a case holds them: the refusal of an 06, what it makes of them, and the net amounts.
+use Prim.Native.Nat.{ℕ, _+_, _*_, _-_, _≤_}
+use mathlib.Core.Bool.{Bool, _&&_, cond}
+use lib.Dec.{leb, eqb}
+use Rattle.measures.specs.Refusals.{unless, firstRefusal}
+use Rattle.measures.specs.Tries.{tried}
+use Rattle.measures.specs.declared.Pence.{Pence}
+use Rattle.benefits.specs.Limits.{highestPot}
+use Rattle.benefits.specs.Steps.{pensionDebit, lumpDebit}
+use Rattle.frames.specs.declared.Debit.{Debit}
+use Rattle.frames.specs.Limits.{debitRefusal}
+use Rattle.rules.specs.declared.Outcome.{Outcome}
+use Rattle.rules.specs.Working.{workedUnless}
+use Rattle.rules.specs.declared.SchemeAmounts.{SchemeAmounts}
+use Rattle.debits.specs.declared.DebitsState.{DebitsState}
+use Rattle.debits.specs.declared.DebitsTaken.{DebitsTaken}
+
+-- no 06 yet
+abbrev pub noDebits : DebitsState
+noDebits = record { next = 0; pension2015 = record { 0 = 0 }; pension1995 = record { 0 = 0 } }
+
+-- ---- by an 06
+
+-- an 06: 11
+unfoldable pub debitFields : ℕ → DebitsState → Debit → ℕ
+debitFields section s d = firstRefusal (debitRefusal d section) (unless (leb (s .next) (d .scheme)) 11)
+
+-- the debit where it is of that scheme, else the debit before
+unfoldable pub debitBy : Pence → ℕ → Debit → Pence
+debitBy before scheme d = cond (eqb (d .scheme) scheme) (record { 0 = pensionDebit (d .pot .0) (d .factor) }) before
+
+-- the debit of its scheme; the next 06 is of a higher one
+unfoldable pub withDebit : DebitsState → Debit → DebitsState
+withDebit s d = record { next = d .scheme + 1; pension2015 = debitBy (s .pension2015) 0 d; pension1995 = debitBy (s .pension1995) 1 d }
+
+-- an 06 taken: refused, the debits as they were
+unfoldable pub debitTaken : ℕ → DebitsState → Debit → DebitsTaken
+debitTaken section s d = record { debits = tried (debitFields section) withDebit s d; refusal = debitFields section s d }
+
+-- ---- closing
+
+-- the 2015 debit, and with a section the 1995 debit and that of its lump sum
+unfoldable pub debitsOf : ℕ → DebitsState → SchemeAmounts
+debitsOf section s =
+    record {
+      pension2015 = s .pension2015;
+      pension1995 = record { 0 = cond (eqb section 1) (s .pension1995 .0) 0 };
+      «lump_sum» = record { 0 = lumpDebit (cond (eqb section 1) (s .pension1995 .0) 0) };
+    }
+
+-- each debit is at most what it is taken from
+abbrev pub covered : SchemeAmounts → SchemeAmounts → Bool
+covered g d =
+    leb (d .pension2015 .0) (g .pension2015 .0) && leb (d .pension1995 .0) (g .pension1995 .0) && leb (d .«lump_sum» .0) (g .«lump_sum» .0)
+
+-- each amount less its debit, or 14
+unfoldable pub netOf : SchemeAmounts → SchemeAmounts → ℕ → Outcome
+netOf g d charge =
+    workedUnless (unless (covered g d) 14)
+    (record {
+      «net_2015» = record { 0 = g .pension2015 .0 - d .pension2015 .0 };
+      «net_1995» = record { 0 = g .pension1995 .0 - d .pension1995 .0 };
+      «net_lump_sum» = record { 0 = g .«lump_sum» .0 - d .«lump_sum» .0 };
+      charge = record { 0 = charge };
+    })
+
+-- the highest debit: that of the highest pot, by a factor of a hundredth
+abbrev pub highestDebit : ℕ
+highestDebit = 100 * highestPot
+
+-- how large the section's debit is
+pub record DebitsBounds (s : DebitsState) : Type 0 where
+  pub pension1995 : s .pension1995 .0 ≤ highestDebit

@@ -1,0 +1,151 @@
+// Scheme Pays debits: refusals 11 and 14, and the net amounts.
+use benefits::lump_debit;
+use benefits::pension_debit;
+use frames::Debit;
+use frames::debit_refusal;
+use measures::Pence;
+use rules::Amounts;
+use rules::Outcome;
+use rules::Refusal;
+use rules::SchemeAmounts;
+ghost use mathlib.Core.Path.{_≡_};
+ghost use Prim.Native.Nat.{_≤_};
+ghost use Rattle.benefits.specs.Limits.{highestPot};
+ghost use Rattle.debits.specs.Debits.{noDebits, debitFields, debitBy, debitTaken, debitsOf, covered, netOf, DebitsBounds};
+
+// The pension debit of each scheme, and the lowest scheme that an 06 may now have: 0 before the first, then one above the previous one's.
+pub struct DebitsState {
+    next: u64,
+    pension2015: Pence,
+    pension1995: Pence,
+}
+
+// The debits after a frame, and the refusal of the frame, 0 for none.
+pub struct DebitsTaken {
+    pub debits: DebitsState,
+    pub refusal: u64,
+}
+
+// The debit of an 06 where it is of that scheme, else the debit before.
+fn debit_by(before: Pence, scheme: u64, d: Debit) -> Pence
+    requires { ⌜ (d .pot .0 ≤ highestPot) × (1 ≤ d .factor) ⌝ }
+    ensures { λ r. ⌜ r ≡ debitBy before scheme d ⌝ }
+{
+    if d.scheme != scheme {
+        return before;
+    }
+    pension_debit(d.pot, d.factor)
+}
+
+// Whether each debit is covered by what it is taken from.
+fn is_covered(gross: SchemeAmounts, debits: SchemeAmounts) -> bool
+    ensures { λ r. ⌜ r ≡ covered gross debits ⌝ }
+{
+    if gross.pension2015.0 < debits.pension2015.0 {
+        return false;
+    }
+    if gross.pension1995.0 < debits.pension1995.0 {
+        return false;
+    }
+    if gross.lump_sum.0 < debits.lump_sum.0 {
+        return false;
+    }
+    true
+}
+
+// What is left of the amounts after the debits, or 14.
+fn net(gross: SchemeAmounts, debits: SchemeAmounts, charge: Pence) -> Outcome
+    ensures { λ r. ⌜ r ≡ netOf gross debits (charge .0) ⌝ }
+{
+    if !is_covered(gross, debits) {
+        return Outcome::Refused(Refusal {
+            number: 14,
+            line: 0,
+        });
+    }
+    let net_2015 = Pence(gross.pension2015.0 - debits.pension2015.0);
+    let net_1995 = Pence(gross.pension1995.0 - debits.pension1995.0);
+    let net_lump_sum = Pence(gross.lump_sum.0 - debits.lump_sum.0);
+    Outcome::Worked(Amounts {
+        net_2015,
+        net_1995,
+        net_lump_sum,
+        charge,
+    })
+}
+
+impl DebitsState {
+    // No 06 yet.
+    pub fn none() -> DebitsState
+        ensures { λ r. ⌜ r ≡ noDebits ⌝ }
+    {
+        DebitsState {
+            next: 0,
+            pension2015: Pence(0),
+            pension1995: Pence(0),
+        }
+    }
+
+    // The refusal of an 06 after the previous one: 11 or 0.
+    fn refusal_of(self, section: u64, d: Debit) -> u64
+        ensures { λ r. ⌜ r ≡ debitFields section self d ⌝ }
+    {
+        let refusal = debit_refusal(d, section);
+        if refusal != 0 {
+            return refusal;
+        }
+        if d.scheme < self.next {
+            return 11;
+        }
+        0
+    }
+
+    // An 06 taken: the debit of its scheme.
+    pub fn take_debit(self, section: u64, d: Debit) -> DebitsTaken
+        ensures { λ r. ⌜ r ≡ debitTaken section self d ⌝ }
+    {
+        let refusal = self.refusal_of(section, d);
+        if refusal != 0 {
+            return DebitsTaken {
+                debits: self,
+                refusal,
+            };
+        }
+        let debits = DebitsState {
+            next: d.scheme + 1,
+            pension2015: debit_by(self.pension2015, 0, d),
+            pension1995: debit_by(self.pension1995, 1, d),
+        };
+        DebitsTaken { debits, refusal: 0 }
+    }
+
+    // The debit of each amount: the lump sum's goes with that of the section's pension.
+    fn amounts(self, section: u64) -> SchemeAmounts
+        requires { ⌜ DebitsBounds self ⌝ }
+        ensures { λ r. ⌜ r ≡ debitsOf section self ⌝ }
+    {
+        let pension2015 = self.pension2015;
+        if section != 1 {
+            return SchemeAmounts {
+                pension2015,
+                pension1995: Pence(0),
+                lump_sum: Pence(0),
+            };
+        }
+        let pension1995 = self.pension1995;
+        let lump = lump_debit(pension1995);
+        SchemeAmounts {
+            pension2015,
+            pension1995,
+            lump_sum: lump,
+        }
+    }
+
+    // The outcome of a case: what is left of the amounts after the debits, or 14.
+    pub fn outcome(self, section: u64, gross: SchemeAmounts, charge: Pence) -> Outcome
+        requires { ⌜ DebitsBounds self ⌝ }
+        ensures { λ r. ⌜ r ≡ netOf gross (debitsOf section self) (charge .0) ⌝ }
+    {
+        net(gross, self.amounts(section), charge)
+    }
+}

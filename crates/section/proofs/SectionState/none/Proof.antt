@@ -1,0 +1,13 @@
+-- `section::SectionState::none` meets its contract: noughts.
+use borrow.Author.Needs.{needs}
+use Rattle.section.proofs.SectionState.none.Statement.{statement}
+use Rattle.section.proofs.SectionState.none.Tie as tie
+
+no-pay-requires : tie.Need-no-pay-requires
+no-pay-requires c κs = search needs
+
+returns : tie.Need-returns
+returns c = rw (c .no-pay .ensures)
+
+pub none-spec : {M : Type 1} → statement M
+none-spec = tie.close (tie.spec no-pay-requires returns)

@@ -1,2 +1,0 @@
-pub mod TakingLaws
-pub mod ClosingLaws

@@ -1,3 +1,0 @@
-pub mod Taking
-pub mod Closing
-pub mod Bounds
