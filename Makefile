@@ -2,18 +2,23 @@
 CFLAGS ?= -O2
 PREFIX ?= /usr/local
 DESTDIR ?=
-STRICT = -std=c99 -Wall -Wextra -Wpedantic -Werror
+STRICT = -Wall -Wextra -Wpedantic -Werror
 LIBRARY = target/staticlib/libcanyonsieve.a
 HEADER = include/canyonsieve.h
 PROGRAM = target/bin/case_program
-STAGE = target/stage
-CARGO = CARGO_TARGET_DIR=$(CURDIR)/target/second CANYONSIEVE_LIB_DIR=$(CURDIR)/target/staticlib cargo
+# The version of the interface, and two parts for releases that leave it as it is.
+VERSION = $(shell sed -n 's/^.define CANYONSIEVE_VERSION //p' $(HEADER)).0.0
+DEST = $(DESTDIR)$(PREFIX)
+# Installed files for the tests, in a folder with a blank in its name.
+STAGE = $(CURDIR)/target/a stage
+CARGO = CARGO_TARGET_DIR="$(CURDIR)/target/second" CANYONSIEVE_LIB_DIR="$(CURDIR)/target/staticlib" cargo
 SECOND = --release --offline --locked --manifest-path tests/second/Cargo.toml
 BENCH = --release --offline --locked --manifest-path bench/Cargo.toml
 
-.PHONY: all library header program install test c-test memcheck examples payroll second twin oracle fuzz bench clean
+.PHONY: all library header program install uninstall test c-test memcheck examples payroll second scripts documents \
+	program-test twin fuzz bench clean
 
-all: library header program
+all: library program
 
 # rt proves what changed and nothing else, so it decides what there is to do.
 library:
@@ -22,18 +27,31 @@ library:
 program:
 	rt check case_program
 
-# The header, read by a C and a C++ compiler.
+# The header by itself and the payroll program, read by C and C++ compilers.
+C_FILES = -include $(HEADER) -Iinclude -x c /dev/null examples/payroll.c
+CXX_FILES = -include $(HEADER) -Iinclude -x c++ /dev/null examples/payroll.c
 header:
-	$(CC) $(STRICT) -fsyntax-only -x c $(HEADER)
-	$(CXX) -Wall -Wextra -Wpedantic -Werror -fsyntax-only -x c++ $(HEADER)
+	$(CC) -std=c99 $(STRICT) -fsyntax-only $(C_FILES)
+	$(CC) -std=c11 $(STRICT) -fsyntax-only $(C_FILES)
+	$(CXX) -std=c++17 $(STRICT) -fsyntax-only $(CXX_FILES)
 
-install: library program
-	install -d $(DESTDIR)$(PREFIX)/lib/pkgconfig $(DESTDIR)$(PREFIX)/include $(DESTDIR)$(PREFIX)/bin $(DESTDIR)$(PREFIX)/share/man/man1
-	install -m 644 $(LIBRARY) $(DESTDIR)$(PREFIX)/lib/libcanyonsieve.a
-	install -m 644 $(HEADER) $(DESTDIR)$(PREFIX)/include/canyonsieve.h
-	sed 's|@PREFIX@|$(PREFIX)|' canyonsieve.pc.in > $(DESTDIR)$(PREFIX)/lib/pkgconfig/canyonsieve.pc
-	install -m 755 $(PROGRAM) $(DESTDIR)$(PREFIX)/bin/canyonsieve-case
-	install -m 644 man/canyonsieve-case.1 $(DESTDIR)$(PREFIX)/share/man/man1/canyonsieve-case.1
+# Copies what `make` built, and neither proves nor compiles anything: it may run as another user.
+install:
+	@test -f $(LIBRARY) && test -f $(PROGRAM) || { echo "nothing is built yet: run make first" >&2; exit 1; }
+	install -d "$(DEST)/lib/pkgconfig" "$(DEST)/include" "$(DEST)/bin" "$(DEST)/share/man/man1" "$(DEST)/share/doc/canyonsieve"
+	install -m 644 $(LIBRARY) "$(DEST)/lib/libcanyonsieve.a"
+	install -m 644 $(HEADER) "$(DEST)/include/canyonsieve.h"
+	sed "s|@PREFIX@|$$(printf %s "$(PREFIX)" | sed 's/[&|\\]/\\&/g')|; s|@VERSION@|$(VERSION)|" canyonsieve.pc.in \
+		> "$(DEST)/lib/pkgconfig/canyonsieve.pc"
+	install -m 755 $(PROGRAM) "$(DEST)/bin/canyonsieve-case"
+	install -m 644 man/canyonsieve-case.1 "$(DEST)/share/man/man1/canyonsieve-case.1"
+	install -m 644 LICENSE docs/FRAMES.md docs/RULES.md "$(DEST)/share/doc/canyonsieve"
+
+# Takes away what install put there.
+uninstall:
+	rm -f "$(DEST)/lib/libcanyonsieve.a" "$(DEST)/include/canyonsieve.h" "$(DEST)/lib/pkgconfig/canyonsieve.pc" \
+		"$(DEST)/bin/canyonsieve-case" "$(DEST)/share/man/man1/canyonsieve-case.1"
+	rm -rf "$(DEST)/share/doc/canyonsieve"
 
 # The gate.
 test:
@@ -42,7 +60,7 @@ test:
 # Calls the library from C.
 c-test: library header
 	mkdir -p target/c
-	$(CC) $(STRICT) $(CFLAGS) -Iinclude tests/c/calls.c $(LIBRARY) -o target/c/calls
+	$(CC) -std=c99 $(STRICT) $(CFLAGS) -Iinclude tests/c/calls.c $(LIBRARY) -o target/c/calls
 	target/c/calls
 
 # The same under valgrind.
@@ -53,19 +71,46 @@ memcheck: c-test
 examples: program
 	for text in examples/*.txt; do $(PROGRAM) < $$text | cmp - $${text%.txt}.line || exit 1; done
 
-# The payroll program from installed files alone.
-payroll:
-	$(MAKE) install DESTDIR= PREFIX=$(CURDIR)/$(STAGE)
+# The payroll program from installed files alone, by the flags that pkg-config gives, in C and in C++; then uninstalled.
+payroll: export PKG_CONFIG_PATH = $(STAGE)/lib/pkgconfig
+payroll: library program
+	rm -rf "$(STAGE)"
+	$(MAKE) install DESTDIR= PREFIX="$(STAGE)"
+	test "$$(pkg-config --modversion canyonsieve)" = "$(VERSION)"
 	mkdir -p target/c
-	$(CC) $(STRICT) $(CFLAGS) -I$(STAGE)/include examples/payroll.c -L$(STAGE)/lib -lcanyonsieve -o target/c/payroll
+	eval "$(CC) -std=c99 $(STRICT) $(CFLAGS) examples/payroll.c $$(pkg-config --cflags --libs canyonsieve) -o target/c/payroll"
 	target/c/payroll | cmp - examples/payroll.out
-	$(STAGE)/bin/canyonsieve-case < examples/printed.txt | cmp - examples/printed.line
+	eval "$(CXX) -std=c++17 $(STRICT) $(CFLAGS) -x c++ examples/payroll.c -x none \
+		$$(pkg-config --cflags --libs canyonsieve) -o target/c/payroll"
+	target/c/payroll | cmp - examples/payroll.out
+	"$(STAGE)/bin/canyonsieve-case" < examples/printed.txt | cmp - examples/printed.line
+	$(MAKE) uninstall DESTDIR= PREFIX="$(STAGE)"
+	test -z "$$(find "$(STAGE)" -type f)"
 
-# The second program: its own figures, then held against the library, then rivals against the library's amounts.
+# The second program: its own figures and the six mistakes, then held against the library, then rivals against the
+# library's amounts.
 second: library
 	$(CARGO) test $(SECOND)
-	$(CARGO) run $(SECOND) --features case --bin compare
-	$(CARGO) run $(SECOND) --features case --bin rivals
+	$(CARGO) run $(SECOND) --bin compare
+	$(CARGO) run $(SECOND) --bin rivals
+
+# What the case program reads and writes, by its users' files, pipes and sockets.
+program-test: library program
+	$(CARGO) run $(SECOND) --bin program $(PROGRAM)
+
+# What the second program makes of the scripts of `figures` and `running` is what their stdout holds. A line that
+# differs is shown, the second program's (<) before the stored one (>).
+scripts: library
+	$(CARGO) build $(SECOND) --bin scripts
+	for script in figures running; do \
+	    target/second/release/scripts $$script < crates/$$script/stdin > target/$$script.lines || exit 1; \
+	    cmp target/$$script.lines crates/$$script/stdout \
+	        || { diff target/$$script.lines crates/$$script/stdout; exit 1; }; \
+	done
+
+# The documents: their blocks run by the library and the second program, their names and numbers looked up.
+documents: library
+	$(CARGO) run $(SECOND) --bin documents
 
 # The twin of the benchmark: its own figures, then held against the library.
 twin: library
@@ -83,11 +128,6 @@ fuzz: library
 # The time of a case over different texts, beside the twin's. Not part of the gate.
 bench: library
 	$(CARGO) run $(BENCH)
-
-# What crates/running/stdout must hold, worked from document 01 in exact fractions, and the script for it.
-oracle:
-	python3 tests/running_oracle.py script | cmp - crates/running/stdin
-	python3 tests/running_oracle.py | cmp - crates/running/stdout
 
 clean:
 	rm -rf target

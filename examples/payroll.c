@@ -1,47 +1,129 @@
-/* A payroll program: the pensionable pay of two posts, a final pay charge and a whole case, in pounds and pence. */
+/* A payroll program: the pensionable pay of posts with the hours that count and those left out, a final pay charge, and
+ * whole cases. Pensions and pays are amounts for a year; a lump sum and a charge are paid once. */
 #include <canyonsieve.h>
 
 #include <inttypes.h>
 #include <stdio.h>
 
-static void pounds(const char *what, uint64_t pence)
+/* Contracted and whole-time minutes of a week, and yearly pay in pence. */
+struct post {
+    uint16_t contracted;
+    uint16_t whole_time;
+    uint32_t pay;
+};
+
+static void pounds(const char *what, uint64_t pence, const char *how_often)
 {
-    printf("%s: %" PRIu64 ".%02" PRIu64 " pounds\n", what, pence / 100, pence % 100);
+    printf("%s: %" PRIu64 ".%02" PRIu64 " pounds, %s\n", what, pence / 100, pence % 100, how_often);
 }
 
-static int refused(const char *what, uint64_t refusal)
+/* Says why a call was refused, and whether it was. */
+static int refused(const char *what, uint64_t refusal, uint64_t line)
 {
-    if (refusal != 0)
-        printf("%s: refusal %" PRIu64 "\n", what, refusal);
-    return refusal != 0;
+    if (refusal != CANYONSIEVE_ACCEPTED)
+        printf("%s: refusal %" PRIu64 " at line %" PRIu64 ": %s\n", what, refusal, line,
+               canyonsieve_refusal_words(refusal));
+    return refusal != CANYONSIEVE_ACCEPTED;
+}
+
+/* Puts a number at the start of bytes, the highest byte first. */
+static uint8_t *put(uint8_t *bytes, uint32_t number, int width)
+{
+    for (int i = width - 1; i >= 0; i--)
+        *bytes++ = (uint8_t)(number >> (8 * i));
+    return bytes;
+}
+
+static uint64_t common_divisor(uint64_t a, uint64_t b)
+{
+    while (b != 0) {
+        uint64_t rest = a % b;
+        a = b;
+        b = rest;
+    }
+    return a;
+}
+
+/* Parts as hours, minutes and the exact fraction of a minute. A minute has as many parts as all posts of the year have
+ * contracted minutes together, so the divisor differs from year to year. */
+static void print_time(const char *what, uint64_t parts, uint64_t parts_of_minute)
+{
+    uint64_t minutes = parts / parts_of_minute;
+    uint64_t rest = parts % parts_of_minute;
+    uint64_t divisor = common_divisor(rest, parts_of_minute);
+
+    printf("  %s %2" PRIu64 " h %2" PRIu64, what, minutes / 60, minutes % 60);
+    if (rest != 0)
+        printf(" %" PRIu64 "/%" PRIu64, rest / divisor, parts_of_minute / divisor);
+    printf(" min");
+}
+
+/* The posts of a year: each with its hours that count and those left out, then the pensionable pay. */
+static int print_year(const char *title, const struct post *posts, size_t count)
+{
+    uint8_t bytes[CANYONSIEVE_MAX_POSTS * CANYONSIEVE_BYTES_OF_POST];
+    uint64_t parts[CANYONSIEVE_MAX_POSTS];
+    uint64_t together = 0;
+    uint8_t *end = bytes;
+
+    if (count > CANYONSIEVE_MAX_POSTS)
+        return refused(title, CANYONSIEVE_POST_COUNT, 0);
+    for (size_t i = 0; i < count; i++) {
+        end = put(put(put(end, posts[i].contracted, 2), posts[i].whole_time, 2), posts[i].pay, 4);
+        together += posts[i].contracted;
+    }
+    struct canyonsieve_figure pay = canyonsieve_posts(bytes, (size_t)(end - bytes), parts, count);
+    printf("%s\n", title);
+    if (refused("pensionable pay", pay.refusal, 0))
+        return 1;
+    for (size_t i = 0; i < count; i++) {
+        printf("post %zu:", i + 1);
+        print_time("counted", parts[i], together);
+        print_time("left out", posts[i].contracted * together - parts[i], together);
+        printf("\n");
+    }
+    pounds("pensionable pay", pay.number, "that year");
+    return 0;
+}
+
+/* A whole case. */
+static int print_case(const char *title, const char *text, size_t length)
+{
+    struct canyonsieve_outcome outcome = canyonsieve_case((const uint8_t *)text, length);
+
+    printf("%s\n", title);
+    if (refused("case", outcome.refusal, outcome.line))
+        return 1;
+    pounds("pension of the 2015 Scheme", outcome.net_2015, "a year");
+    pounds("pension of the 1995 Section", outcome.net_1995, "a year");
+    pounds("lump sum", outcome.net_lump_sum, "once");
+    pounds("the employer's charge", outcome.charge, "once");
+    return 0;
 }
 
 int main(void)
 {
-    /* 20 hours at 10,000 pounds and 20 hours at 12,000 pounds, both of 37.5 hours. */
-    static const uint8_t posts[] = {
-        0x04, 0xB0, 0x08, 0xCA, 0x00, 0x0F, 0x42, 0x40,
-        0x04, 0xB0, 0x08, 0xCA, 0x00, 0x12, 0x4F, 0x80,
-    };
-    uint64_t parts[2];
-    struct canyonsieve_figure pay = canyonsieve_posts(posts, sizeof posts, parts, 2);
-    if (!refused("pay", pay.refusal)) {
-        pounds("pensionable pay", pay.number);
-        printf("minutes that count: %" PRIu64 " and %" PRIu64 "\n", parts[0] / 2400, parts[1] / 2400);
-    }
-
-    struct canyonsieve_figure charge =
-        canyonsieve_charge(3000000, 3100000, 3200000, 4000000, 65, 65, 65, 7, 7300, 2020);
-    if (!refused("charge", charge.refusal))
-        pounds("final pay charge", charge.number);
-
-    static const char text[] =
+    static const struct post equal_weeks[] = {{1200, 2250, 1000000}, {1200, 2250, 1200000}};
+    static const struct post differing_weeks[] = {{1200, 2250, 5300000}, {1140, 2400, 4750000}};
+    static const char printed[] =
         "0107B2040107F504010043\n"
         "0207DF0000\n"
         "0305DC08CA0027AC40\n"
         "03038408CA00124F80\n";
-    struct canyonsieve_outcome outcome = canyonsieve_case((const uint8_t *)text, sizeof text - 1);
-    if (!refused("case", outcome.refusal))
-        pounds("net 2015 pension", outcome.net_2015);
-    return 0;
+    static const char without_factor[] = "0107AF0B0107EE0A110043\n";
+
+    int failed = print_year("20 hours at 10,000 pounds and 20 hours at 12,000 pounds, both of 37.5 hours", equal_weeks, 2);
+    failed |= print_year("20 hours of 37.5 at 53,000 pounds and 19 hours of 40 at 47,500 pounds", differing_weeks, 2);
+
+    struct canyonsieve_figure charge =
+        canyonsieve_charge(3000000, 3100000, 3200000, 4000000, 65, 65, 65, 7, 7300, 2020);
+    failed |= refused("final pay charge", charge.refusal, 0);
+    if (charge.refusal == CANYONSIEVE_ACCEPTED)
+        pounds("final pay charge", charge.number, "once");
+
+    failed |= print_case("25 hours at 26,000 pounds and 15 hours at 12,000 pounds, one year", printed, sizeof printed - 1);
+
+    /* Refused, and meant to be: 49 months early, and no factor frame. */
+    failed |= !print_case("49 months early without a factor", without_factor, sizeof without_factor - 1);
+    return failed;
 }

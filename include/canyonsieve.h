@@ -1,11 +1,19 @@
-/* Canyonsieve: calls of a proved pension case engine, for payroll code in C.
+/* Canyonsieve: calls of a proved pension case engine, for payroll code in C or C++.
  *
- * Amounts of money are in pence, contracts in minutes a week, spans in months. Each call takes any numbers
- * whatever: what the rules do not take is refused. Each gives a refusal, 0 for none, and a number beside it,
- * 0 when refused. Results are returned by value. No call allocates, keeps anything between calls or reads
- * anything but its arguments, so all are reentrant, and several threads may call at once.
+ * SPDX-License-Identifier: MIT
+ * Copyright (c) 2026 Canyonsieve maintainers. The licence is in the file LICENSE.
  *
- * Link with libcanyonsieve.a, which is for x86-64.
+ * Amounts of money are in pence, contracts in minutes a week, spans in months. A pension, a pay and an abatement are
+ * amounts for a YEAR: what is paid every month is a share of them, which the caller works out. A lump sum and a charge
+ * are paid ONCE.
+ *
+ * Each call takes any numbers whatever: what the rules do not take is refused. Each gives a refusal, 0 for none, and
+ * numbers beside it, all 0 when refused: look at the refusal first, since 0 is a legal amount. Results are returned by
+ * value. No call allocates, keeps anything between calls or reads anything but its arguments, so all are reentrant, and
+ * several threads may call at once.
+ *
+ * docs/FRAMES.md says how a text is written, byte by byte, and docs/RULES.md by which steps it is worked, with examples
+ * and a glossary; both are installed under share/doc/canyonsieve. Link with libcanyonsieve.a, which is for x86-64 Linux.
  */
 #ifndef CANYONSIEVE_H
 #define CANYONSIEVE_H
@@ -17,8 +25,26 @@
 extern "C" {
 #endif
 
-/* The version of this interface: the functions, their parameters and the layout of the structs. */
-#define CANYONSIEVE_VERSION 1
+/* The version of this interface. It is raised by one when a function is added, when a struct or a frame changes, and
+ * when a kind of frame is added. Code that was written for one version asks for it:
+ *     #if CANYONSIEVE_VERSION != 2
+ *     #error "another version of canyonsieve.h"
+ *     #endif */
+#define CANYONSIEVE_VERSION 2
+
+/* The limits. */
+#define CANYONSIEVE_MAX_POSTS 16         /* posts of a year */
+#define CANYONSIEVE_MAX_YEARS 50         /* years of a case */
+#define CANYONSIEVE_MAX_TEXT 32768       /* bytes of a text */
+#define CANYONSIEVE_MAX_PAY 1000000000   /* pence of a yearly pay, and of a Scheme Pays pot */
+#define CANYONSIEVE_BYTES_OF_POST 8      /* bytes of a post in the posts call */
+
+/* A result that is not looked at may be a refusal that is paid. */
+#if defined(__GNUC__)
+#define CANYONSIEVE_CHECKED __attribute__((warn_unused_result))
+#else
+#define CANYONSIEVE_CHECKED
+#endif
 
 /* The refusals. */
 enum canyonsieve_refusal {
@@ -68,6 +94,56 @@ enum canyonsieve_refusal {
     CANYONSIEVE_EARNED = 25
 };
 
+/* A refusal in words, for a message to a person; for a number that is no refusal, words that say so. Never NULL, and
+ * nothing to be freed. */
+CANYONSIEVE_CHECKED static inline const char *canyonsieve_refusal_words(uint64_t refusal)
+{
+    switch (refusal) {
+    case CANYONSIEVE_ACCEPTED:
+        return "accepted";
+    case CANYONSIEVE_TEXT_LENGTH:
+        return "a text over 32,768 bytes";
+    case CANYONSIEVE_LINE:
+        return "a line that is empty, has another character than 0-9 and A-F or an odd count of digits, or lacks its line feed";
+    case CANYONSIEVE_FRAME:
+        return "an unknown kind of frame or a wrong length";
+    case CANYONSIEVE_ORDER:
+        return "a kind of frame out of order, or no member frame";
+    case CANYONSIEVE_DATES:
+        return "a date, section or pension age out of range, or retirement before birth";
+    case CANYONSIEVE_YEAR:
+        return "an April year out of range or not the next, a revaluation above 2,000, or a 51st year";
+    case CANYONSIEVE_POST:
+        return "a post out of range, or a 17th post";
+    case CANYONSIEVE_SECOND_WHOLE_TIME:
+        return "a second whole-time post";
+    case CANYONSIEVE_FINAL_PAY:
+        return "final pay out of range";
+    case CANYONSIEVE_FACTOR:
+        return "a factor out of range or not after the previous one";
+    case CANYONSIEVE_DEBIT:
+        return "a debit out of range or not after the previous one";
+    case CANYONSIEVE_NO_FINAL_PAY:
+        return "a section without final pay";
+    case CANYONSIEVE_NO_FACTOR:
+        return "no factor for exactly the months early";
+    case CANYONSIEVE_DEBIT_ABOVE:
+        return "a debit above what it is taken from";
+    case CANYONSIEVE_POST_COUNT:
+        return "more than 16 posts";
+    case CANYONSIEVE_PLACES:
+        return "fewer places lent than posts";
+    case CANYONSIEVE_POSTS_LENGTH:
+        return "a length of posts that is no multiple of 8";
+    case CANYONSIEVE_AMOUNT:
+        return "an amount above 1,000,000,000,000 pence";
+    case CANYONSIEVE_EARNED:
+        return "an earned pension above the pension";
+    default:
+        return "no refusal of this version";
+    }
+}
+
 /* A refusal, 0 for none, and the number beside it in pence, 0 when refused. */
 struct canyonsieve_figure {
     uint64_t refusal;
@@ -85,52 +161,56 @@ struct canyonsieve_months {
 struct canyonsieve_outcome {
     uint64_t refusal;
     uint64_t line;
-    uint64_t net_2015;
-    uint64_t net_1995;
-    uint64_t net_lump_sum;
-    uint64_t charge;
+    uint64_t net_2015;     /* pension of the 2015 Scheme, for a year */
+    uint64_t net_1995;     /* pension of the 1995 Section, for a year */
+    uint64_t net_lump_sum; /* lump sum of the 1995 Section, once */
+    uint64_t charge;       /* the employer's final pay charge, once; not the member's */
 };
 
-/* The pensionable pay of a year with several posts, in pence: the aggregate of the posts, with hours past the
- * weighted week left out where the rate of pay is lowest.
+/* The pensionable pay of a year with several posts, in pence for that year: the aggregate of the posts, with hours past
+ * the weighted week left out where the rate of pay is lowest.
  *
  * posts: length bytes, 8 for each post, big-endian: contracted minutes 2, whole-time minutes 2, yearly pay
  * in pence 4.
  *
  * parts: this many places, lent by the caller. With H the contracted minutes of all posts together, a minute
- * has H parts. Accepted, the first places get the parts that count for each post, in the order of the posts,
- * 0 included; places past the last post stay as they are. Refused, no place is written.
+ * has H parts: parts / H is whole minutes, and parts % H the part of a minute over H. Accepted, the first places get the
+ * parts that count for each post, in the order of the posts, 0 included; places past the last post stay as they are.
+ * Refused, no place is written.
  *
  * Both stay the caller's, and nothing of them is kept. They must not overlap. A pointer may be NULL only
  * where its length or its places are 0.
  *
  * Refusals, tried in this order: 23, length is no multiple of 8; 21, more than 16 posts; 22, fewer places than
  * posts; then post by post 7, a post that is out of range, and 8, a second whole-time post. No posts: 0 pence. */
-struct canyonsieve_figure canyonsieve_posts(const uint8_t *posts, size_t length, uint64_t *parts, size_t places);
+CANYONSIEVE_CHECKED struct canyonsieve_figure canyonsieve_posts(const uint8_t *posts, size_t length, uint64_t *parts,
+                                                                size_t places);
 
-/* The employer's final pay charge, in pence.
+/* The employer's final pay charge, in pence, paid once.
  *
  * pay4 to pay1: the pays of the last four years in pence, pay1 that of the last year. allowance3 to allowance1:
  * the rise that is allowed in years 3 to 1, in thousandths. controls: bits 0, 1 and 2 are 1 where years 3, 2
  * and 1 are controlled. days: days of service. factor: in hundredths.
  *
  * Refusal 9: one of the ten numbers is out of range. */
-struct canyonsieve_figure canyonsieve_charge(uint64_t pay4, uint64_t pay3, uint64_t pay2, uint64_t pay1,
-                                             uint64_t allowance3, uint64_t allowance2, uint64_t allowance1,
-                                             uint64_t controls, uint64_t days, uint64_t factor);
+CANYONSIEVE_CHECKED struct canyonsieve_figure canyonsieve_charge(uint64_t pay4, uint64_t pay3, uint64_t pay2,
+                                                                 uint64_t pay1, uint64_t allowance3,
+                                                                 uint64_t allowance2, uint64_t allowance1,
+                                                                 uint64_t controls, uint64_t days, uint64_t factor);
 
 /* A whole case: the net pension of the 2015 Scheme, the net pension and lump sum of the 1995 Section, and the employer's
- * final pay charge. No other division of the hours of the posts and no other of the last three years as final pay would
- * give a larger net pension of both schemes together, or a larger net lump sum.
+ * final pay charge. The pensions are for a year, the lump sum and the charge once. No other division of the hours of the
+ * posts and no other of the last three years as final pay would give a larger net pension of both schemes together, or a
+ * larger net lump sum.
  *
- * text: length bytes, lines of digits 0-9 and A-F, two to a byte, each line ended by a line feed and holding one frame. It
- * stays the caller's, and nothing of it is kept. It may be NULL only where length is 0.
+ * text: length bytes, lines of digits 0-9 and A-F, two to a byte, each line ended by a line feed and holding one frame;
+ * docs/FRAMES.md has the frames. It stays the caller's, and nothing of it is kept. It may be NULL only where length is 0.
  *
  * Refusals: 1, the text is too long (line 0); then line by line, the first line being 1, and the first line that is refused
  * ends the reading: 2, 3, 4, then 5 to 11 by the frame's own fields; at the end, line 0: 4, 12, 13, 14.
  *
  * It needs under 8 kilobytes of stack, the other calls under 4. */
-struct canyonsieve_outcome canyonsieve_case(const uint8_t *text, size_t length);
+CANYONSIEVE_CHECKED struct canyonsieve_outcome canyonsieve_case(const uint8_t *text, size_t length);
 
 /* Months early: from the age at retirement, in completed months, to pension age. Below 0 for months late.
  *
@@ -138,18 +218,19 @@ struct canyonsieve_outcome canyonsieve_case(const uint8_t *text, size_t length);
  *
  * Refusal 5: a date or the pension age is out of range, or retirement is before birth. Retirement on the day
  * of birth is taken. */
-struct canyonsieve_months canyonsieve_months_early(uint64_t birth_year, uint64_t birth_month, uint64_t birth_day,
-                                                   uint64_t retirement_year, uint64_t retirement_month,
-                                                   uint64_t retirement_day, uint64_t pension_age);
+CANYONSIEVE_CHECKED struct canyonsieve_months canyonsieve_months_early(uint64_t birth_year, uint64_t birth_month,
+                                                                       uint64_t birth_day, uint64_t retirement_year,
+                                                                       uint64_t retirement_month,
+                                                                       uint64_t retirement_day, uint64_t pension_age);
 
-/* The reduction of a pension for new pay, in pence, at most the pension less the earned pension.
+/* The reduction of a pension for new pay, in pence for a year, at most the pension less the earned pension.
  *
  * All four amounts are in pence a year.
  *
  * Refusals, tried in this order: 24, an amount is above 1,000,000,000,000 pence; 25, the earned pension is
  * above the pension. */
-struct canyonsieve_figure canyonsieve_abatement(uint64_t pension, uint64_t earned, uint64_t previous_pay,
-                                                uint64_t new_pay);
+CANYONSIEVE_CHECKED struct canyonsieve_figure canyonsieve_abatement(uint64_t pension, uint64_t earned,
+                                                                    uint64_t previous_pay, uint64_t new_pay);
 
 #ifdef __cplusplus
 }

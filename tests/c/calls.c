@@ -326,6 +326,53 @@ static void cases(void)
     }
 }
 
+/* Each refusal has words of its own, and any other number the same words. */
+static void words(void)
+{
+    static const uint64_t others[] = {15, 20, 26, 255, (UINT64_C(1) << 32) + 7, UINT64_MAX};
+    const char *none = canyonsieve_refusal_words(UINT64_C(1) << 40);
+
+    for (uint64_t n = 0; n <= CANYONSIEVE_EARNED; n++) {
+        int is_refusal = n <= CANYONSIEVE_DEBIT_ABOVE || n >= CANYONSIEVE_POST_COUNT;
+        same(__LINE__, "words of its own", strcmp(canyonsieve_refusal_words(n), none) != 0, (uint64_t)is_refusal);
+        for (uint64_t m = 0; is_refusal && m < n; m++)
+            same(__LINE__, "the same words", strcmp(canyonsieve_refusal_words(n), canyonsieve_refusal_words(m)) == 0, 0);
+    }
+    for (size_t i = 0; i < COUNT(others); i++)
+        same(__LINE__, "words for no refusal", strcmp(canyonsieve_refusal_words(others[i]), none) == 0, 1);
+}
+
+/* A text of a member, years from 2015 on and one post of a pay in the last. */
+static void years(int line, unsigned count, uint64_t pay, uint64_t refusal, uint64_t at, uint64_t net_2015)
+{
+    static char text[2048];
+    const uint64_t expected[6] = {refusal, at, net_2015, 0, 0, 0};
+    size_t length = (size_t)sprintf(text, MEMBER);
+
+    for (unsigned i = 0; i < count; i++)
+        length += (size_t)sprintf(text + length, "02%04X0000\n", 2015 + i);
+    length += (size_t)sprintf(text + length, "03000A0014%08" PRIX64 "\n", pay);
+    outcome(line, text, length, expected);
+}
+
+/* Each limit of the header passes, and the number past it is refused. */
+static void limits(void)
+{
+    static const uint8_t zeros[CANYONSIEVE_BYTES_OF_POST * (CANYONSIEVE_MAX_POSTS + 1)];
+    static uint8_t text[CANYONSIEVE_MAX_TEXT + 1];
+    uint64_t parts[CANYONSIEVE_MAX_POSTS + 1];
+
+    years(__LINE__, CANYONSIEVE_MAX_YEARS, 54, 0, 0, 1);
+    years(__LINE__, CANYONSIEVE_MAX_YEARS + 1, 54, CANYONSIEVE_YEAR, 1 + CANYONSIEVE_MAX_YEARS + 1, 0);
+    years(__LINE__, 1, CANYONSIEVE_MAX_PAY, 0, 0, 18518519);
+    years(__LINE__, 1, CANYONSIEVE_MAX_PAY + UINT64_C(1), CANYONSIEVE_POST, 3, 0);
+    /* Posts of noughts are refused one by one where their number passes, bytes of noughts as a line. */
+    figure(__LINE__, canyonsieve_posts(zeros, sizeof zeros - CANYONSIEVE_BYTES_OF_POST, parts, COUNT(parts)), CANYONSIEVE_POST, 0);
+    figure(__LINE__, canyonsieve_posts(zeros, sizeof zeros, parts, COUNT(parts)), CANYONSIEVE_POST_COUNT, 0);
+    same(__LINE__, "refusal", canyonsieve_case(text, CANYONSIEVE_MAX_TEXT).refusal, CANYONSIEVE_LINE);
+    same(__LINE__, "refusal", canyonsieve_case(text, CANYONSIEVE_MAX_TEXT + 1).refusal, CANYONSIEVE_TEXT_LENGTH);
+}
+
 int main(void)
 {
     posts_accepted();
@@ -335,6 +382,8 @@ int main(void)
     dates();
     abatements();
     cases();
+    words();
+    limits();
     printf("%u checks passed\n", checks);
     return 0;
 }

@@ -1,12 +1,9 @@
-//! Names the engine's static library to the linker, where a feature asks for it.
+//! Names the engine's static library to the linker.
 
 use std::env;
 
 fn main() {
     println!("cargo:rerun-if-env-changed=CANYONSIEVE_LIB_DIR");
-    if env::var_os("CARGO_FEATURE_ENGINE").is_none() {
-        return;
-    }
     let folder = env::var("CANYONSIEVE_LIB_DIR")
         .expect("set CANYONSIEVE_LIB_DIR to the folder that holds libcanyonsieve.a");
     println!("cargo:rerun-if-changed={folder}/libcanyonsieve.a");

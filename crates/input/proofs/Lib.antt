@@ -4,3 +4,4 @@ pub mod Posts
 pub mod Putting
 pub mod Rest
 pub mod Words
+pub mod Endings

@@ -50,6 +50,7 @@ fn run(script: &[u8])
 
 fn main() {
     let mut buffer = io::large_buffer();
-    let n = read_input(&mut buffer);
+    let given = read_input(&mut buffer);
+    let n = given.count;
     run(&buffer[..n]);
 }

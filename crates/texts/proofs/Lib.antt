@@ -1,4 +1,5 @@
 pub mod Worked
+pub mod CutShort
 pub mod Holding
 pub mod Spelling
 pub mod LineByLine

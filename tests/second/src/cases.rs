@@ -207,24 +207,33 @@ impl Case {
         self.final_pay.map_or(1, |pay| pay.final_year())
     }
 
+    /// The aggregate of each year by the posts step.
+    fn aggregates(&self) -> Vec<u64> {
+        self.years.iter().map(|y| aggregate(&y.posts)).collect()
+    }
+
     /// The benefits after reduction by the steps, before debits.
     pub fn reduced_benefits(&self) -> Result<Benefits, u64> {
-        let aggregates: Vec<u64> = self.years.iter().map(|y| aggregate(&y.posts)).collect();
-        self.benefits(self.pension_2015(&aggregates), self.final_year())
+        self.benefits(self.pension_2015(&self.aggregates()), self.final_year())
     }
 
     /// The outcome of an accepted case, or the refusal of its closing.
     pub fn close(&self) -> Result<Outcome, u64> {
+        self.close_with(&self.aggregates(), self.final_year())
+    }
+
+    /// The same of one aggregate for each year and of the final pay of a year.
+    pub fn close_with(&self, aggregates: &[u64], final_year: usize) -> Result<Outcome, u64> {
         unless(self.member.is_some(), 4)?;
         unless(!self.has_section() || self.final_pay.is_some(), 12)?;
-        let had = self.reduced_benefits()?;
+        let had = self.benefits(self.pension_2015(aggregates), final_year)?;
         let debits = self.benefit_debits();
         let less = |amount: u64, debit: u64| amount.checked_sub(debit).ok_or(14u64);
         Ok(Outcome {
             net_2015: less(had.pension_2015, debits.pension_2015)?,
             net_1995: less(had.pension_1995, debits.pension_1995)?,
             net_lump_sum: less(had.lump_sum, debits.lump_sum)?,
-            charge: self.final_pay.map_or(0, |pay| pay.charge()),
+            charge: self.final_pay.map_or(0, |pay| pay.charge_for(final_year)),
             ..Outcome::default()
         })
     }

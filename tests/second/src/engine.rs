@@ -14,7 +14,6 @@ struct Months {
     months: i64,
 }
 
-#[cfg(feature = "case")]
 #[repr(C)]
 struct CaseOutcome {
     refusal: u64,
@@ -50,7 +49,6 @@ extern "C" {
         pension_age: u64,
     ) -> Months;
     fn canyonsieve_abatement(pension: u64, earned: u64, previous_pay: u64, new_pay: u64) -> Figure;
-    #[cfg(feature = "case")]
     fn canyonsieve_case(text: *const u8, length: usize) -> CaseOutcome;
 }
 
@@ -111,7 +109,6 @@ pub fn abatement(call: &[u64; 4]) -> (u64, u64) {
 }
 
 /// The engine's case call.
-#[cfg(feature = "case")]
 pub fn case(text: &[u8]) -> Outcome {
     let bytes = if text.is_empty() {
         std::ptr::null()
@@ -128,10 +125,4 @@ pub fn case(text: &[u8]) -> Outcome {
         net_lump_sum: given.net_lump_sum,
         charge: given.charge,
     }
-}
-
-/// Where the library has no case call yet, the second program stands for it.
-#[cfg(not(feature = "case"))]
-pub fn case(text: &[u8]) -> Outcome {
-    crate::case(text)
 }

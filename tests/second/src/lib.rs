@@ -5,20 +5,24 @@
 //! are counted one by one on a calendar of counted days, and a text is cut into owned lines before
 //! any of them is read.
 //!
-//! Its programs: `second` prints the line of a text, as the case program does; `rivals` tries rival
-//! workings; `compare` holds the engine against it, with the features `engine` or `case` and with
-//! `CANYONSIEVE_LIB_DIR` naming the folder of `libcanyonsieve.a`:
+//! Its programs: `second` prints the line of a text, as the case program does; `scripts` does the
+//! scripts of the engine's test programs; `rivals` tries rival workings against the engine's amounts;
+//! `compare` holds the engine against it; `documents` holds the documents against both and against
+//! the repository; `program` runs the case program. The engine's library is linked into all of them,
+//! so that none can run without it: `CANYONSIEVE_LIB_DIR` names the folder of `libcanyonsieve.a`.
+//!
+//! `mistakes` has workings with one step wrong, for the examples that show them.
 //!
 //! ```text
-//! CANYONSIEVE_LIB_DIR=.. cargo run --release --features case --bin compare
+//! CANYONSIEVE_LIB_DIR=.. cargo run --release --bin compare
 //! ```
 
 pub mod benefits;
 pub mod calendar;
 pub mod cases;
-#[cfg(feature = "engine")]
 pub mod engine;
 pub mod frames;
+pub mod mistakes;
 pub mod posts;
 pub mod random;
 pub mod samples;
@@ -27,7 +31,7 @@ pub mod wide;
 pub use benefits::{abatement, charge};
 pub use calendar::months_early;
 pub use cases::{case, printed, Outcome};
-pub use posts::posts;
+pub use posts::{posts, records};
 
 /// The largest pay or pot in pence.
 pub const LARGEST_PAY: u64 = 1_000_000_000;

@@ -45,7 +45,7 @@ pub fn parts_together(posts: &[Post]) -> u64 {
 }
 
 /// The places of the posts by falling rate; of equal rates the earlier post first.
-fn by_rate(posts: &[Post]) -> Vec<usize> {
+pub fn by_rate(posts: &[Post]) -> Vec<usize> {
     let mut order: Vec<usize> = (0..posts.len()).collect();
     // a/b against c/d by a × d against c × b. The sort keeps the order of equals.
     order.sort_by(|&one, &other| {
@@ -55,10 +55,9 @@ fn by_rate(posts: &[Post]) -> Vec<usize> {
     order
 }
 
-/// Fills the posts one after another in the order given, until the parts are used up.
-pub fn filled(posts: &[Post], order: &[usize]) -> Vec<u64> {
+/// Fills the posts one after another in the order given, until the parts left are used up.
+pub fn filled(posts: &[Post], order: &[usize], mut left: u64) -> Vec<u64> {
     let minutes = minutes_together(posts);
-    let mut left = parts_together(posts);
     let mut parts = vec![0; posts.len()];
     for &place in order {
         parts[place] = left.min(posts[place].contracted * minutes);
@@ -75,7 +74,7 @@ pub fn parts_of(posts: &[Post]) -> Vec<u64> {
             parts[place] = posts[place].contracted * minutes_together(posts);
             parts
         }
-        None => filled(posts, &by_rate(posts)),
+        None => filled(posts, &by_rate(posts), parts_together(posts)),
     }
 }
 
@@ -100,34 +99,44 @@ pub fn aggregate(posts: &[Post]) -> u64 {
     aggregate_of(posts, &parts_of(posts))
 }
 
-/// A list of posts of eight bytes each, or its refusal.
-fn listed(bytes: &[u8], places: usize) -> Result<Vec<Post>, u64> {
-    unless(bytes.len() % 8 == 0, 23)?;
-    unless(bytes.len() / 8 <= MOST_POSTS, 21)?;
-    unless(bytes.len() / 8 <= places, 22)?;
-    let mut list = Vec::new();
-    for record in bytes.chunks(8) {
-        let post = Post {
-            contracted: u64::from(record[0]) * 256 + u64::from(record[1]),
-            whole_time: u64::from(record[2]) * 256 + u64::from(record[3]),
-            pay: record[4..]
-                .iter()
-                .fold(0, |pay, &byte| pay * 256 + u64::from(byte)),
-        };
-        try_post(&list, &post)?;
-        list.push(post);
+/// Refusals 21 and 22 of a list, then 7 and 8 post by post.
+fn try_list(list: &[Post], places: usize) -> Result<(), u64> {
+    unless(list.len() <= MOST_POSTS, 21)?;
+    unless(list.len() <= places, 22)?;
+    (0..list.len()).try_for_each(|place| try_post(&list[..place], &list[place]))
+}
+
+/// The call on posts lent as records: refusal and aggregate; the parts are written to the places.
+pub fn records(list: &[Post], places: &mut [u64]) -> (u64, u64) {
+    match try_list(list, places.len()) {
+        Ok(()) => {
+            let parts = parts_of(list);
+            places[..parts.len()].copy_from_slice(&parts);
+            (0, aggregate_of(list, &parts))
+        }
+        Err(refusal) => (refusal, 0),
     }
-    Ok(list)
+}
+
+/// The post of eight bytes.
+fn post_of(bytes: &[u8]) -> Post {
+    let number = |from: usize, to: usize| {
+        bytes[from..to]
+            .iter()
+            .fold(0, |number, &byte| number * 256 + u64::from(byte))
+    };
+    Post {
+        contracted: number(0, 2),
+        whole_time: number(2, 4),
+        pay: number(4, 8),
+    }
 }
 
 /// The posts call: refusal and aggregate; the parts are written to the places.
 pub fn posts(bytes: &[u8], places: &mut [u64]) -> (u64, u64) {
-    match listed(bytes, places.len()) {
-        Ok(list) => {
-            let parts = parts_of(&list);
-            places[..parts.len()].copy_from_slice(&parts);
-            (0, aggregate_of(&list, &parts))
-        }
-        Err(refusal) => (refusal, 0),
+    if bytes.len() % 8 != 0 {
+        return (23, 0);
     }
+    let list: Vec<Post> = bytes.chunks(8).map(post_of).collect();
+    records(&list, places)
 }

@@ -16,7 +16,7 @@ array-share-prefix-buffer : tie.Need-array-share-prefix-buffer
 array-share-prefix-buffer c = omega arith
 
 slice-aggregate-run : tie.Need-slice-aggregate-run
-slice-aggregate-run c = c .before .before .read-input .ensures .1
+slice-aggregate-run c = c .before .before .read-input .ensures .within .1
 
 run-requires : tie.Need-run-requires
 run-requires c κs = omega arith

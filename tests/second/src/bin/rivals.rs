@@ -1,9 +1,10 @@
 //! Tries rival workings: none may have a larger net pension sum or a larger net lump sum than the
 //! amounts that the case gives. Small cases are held against every rival there is, large ones
-//! against random and greedy rivals. With the feature `case` the amounts are the engine's.
+//! against random and greedy rivals. The amounts are the engine's.
 
 use second::benefits::after_year;
 use second::cases::{Case, Year};
+use second::engine;
 use second::posts::{aggregate_of, filled, minutes_together, parts_of, parts_together, Post};
 use second::random::Random;
 use second::samples::accepted;
@@ -16,14 +17,6 @@ const SEED: u64 = 0x0061_7661_6C73_0003;
 const SMALL_CASES: u64 = 4_000;
 const LARGE_CASES: u64 = 10_000;
 const RIVALS_OF_A_LARGE_CASE: u64 = 60;
-
-/// The amounts of a text.
-fn given_amounts(text: &[u8]) -> Outcome {
-    #[cfg(feature = "case")]
-    return second::engine::case(text);
-    #[cfg(not(feature = "case"))]
-    return second::case(text);
-}
 
 /// The two amounts a rival is judged by; a net below zero stays so.
 #[derive(Clone, Copy, Debug, PartialEq, Eq)]
@@ -115,7 +108,7 @@ impl Divisions {
 /// on the picks before it only through the pension before it, so sets of pensions are enough.
 fn try_every_rival(case: &Case) -> u128 {
     let text = case_text(case);
-    let given = given_nets(&given_amounts(&text));
+    let given = given_nets(&engine::case(&text));
     let mut count = 1;
     let mut pensions = BTreeSet::from([0]);
     for year in &case.years {
@@ -200,7 +193,7 @@ fn rival_parts(random: &mut Random, posts: &[Post]) -> Vec<u64> {
         0 => random_parts(random, posts),
         1 => {
             let order = some_order(random, posts);
-            filled(posts, &order)
+            filled(posts, &order, parts_together(posts))
         }
         2 => moved_parts(random, posts),
         _ => parts_of(posts),
@@ -215,7 +208,7 @@ fn rival_parts(random: &mut Random, posts: &[Post]) -> Vec<u64> {
 /// Holds a case against some rivals; gives how many of them were as good in both amounts.
 fn try_some_rivals(random: &mut Random, case: &Case) -> u64 {
     let text = case_text(case);
-    let given = given_nets(&given_amounts(&text));
+    let given = given_nets(&engine::case(&text));
     let mut as_good = 0;
     for _ in 0..RIVALS_OF_A_LARGE_CASE {
         let aggregates: Vec<u64> = case

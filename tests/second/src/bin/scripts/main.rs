@@ -1,0 +1,106 @@
+//! Does the scripts of the engine's test programs by the second program's own rules, and writes what
+//! those programs must write. `scripts figures` and `scripts running` read a script from standard
+//! input. A line that is none of the script's commands is an error, and nothing is written then.
+
+mod figures;
+mod running;
+mod words;
+
+use running::Running;
+use std::env;
+use std::io::{self, Read, Write};
+use std::process::ExitCode;
+
+/// What the lines of a script write, one after another. `write` gives nothing for a line that it does
+/// not know.
+fn written(script: &str, mut write: impl FnMut(&str) -> Option<String>) -> Result<String, String> {
+    let mut lines = String::new();
+    for (number, line) in (1..).zip(script.split_inclusive('\n')) {
+        let known = line.strip_suffix('\n').and_then(&mut write);
+        lines += &known.ok_or_else(|| format!("line {number} is no command: {line}"))?;
+    }
+    Ok(lines)
+}
+
+/// What a script in one of the two languages writes.
+fn done(language: &str, script: &str) -> Result<String, String> {
+    match language {
+        "figures" => written(script, figures::line),
+        "running" => {
+            let mut running = Running::default();
+            written(script, |line| running.line(line))
+        }
+        _ => Err("give the script's language: figures or running".to_string()),
+    }
+}
+
+fn run() -> Result<(), String> {
+    let language = env::args().nth(1).unwrap_or_default();
+    let mut script = String::new();
+    io::stdin()
+        .read_to_string(&mut script)
+        .map_err(|error| error.to_string())?;
+    let lines = done(&language, &script)?;
+    io::stdout()
+        .write_all(lines.as_bytes())
+        .map_err(|error| error.to_string())
+}
+
+fn main() -> ExitCode {
+    match run() {
+        Ok(()) => ExitCode::SUCCESS,
+        Err(words) => {
+            eprintln!("scripts: {}", words.trim_end());
+            ExitCode::FAILURE
+        }
+    }
+}
+
+#[cfg(test)]
+mod tests {
+    use super::*;
+
+    /// Asserts that each line is refused, whatever stands before it.
+    fn assert_unknown(language: &str, before: &str, lines: &[&str]) {
+        assert!(done(language, before).is_ok());
+        for line in lines {
+            let given = done(language, &format!("{before}{line}\n"));
+            let words = format!("line 2 is no command: {line}\n");
+            assert_eq!(given, Err(words), "{language}");
+        }
+    }
+
+    #[test]
+    fn unknown_lines_are_errors() {
+        let known = "C closed\n";
+        let unknown = [
+            "G x|01", "F", "F no bar", "F x|", "F x|0", "F x|0g", "C x|01", " ",
+        ];
+        assert_unknown("running", known, &unknown);
+        let known = "A none|0 0 0 0\n";
+        let unknown = [
+            "",
+            "A no bar",
+            "A x|0 0 0",
+            "A x|0 0 0 0 0",
+            "A x|0 0 0 -1",
+            "F x|01",
+        ];
+        assert_unknown("figures", known, &unknown);
+        let unknown = [
+            "P x|19",
+            "P x|1 1 2",
+            "P x|1 65536 1 1",
+            "R x|1 1 1 4294967296",
+            "B x|1",
+        ];
+        assert_unknown("figures", known, &unknown);
+    }
+
+    #[test]
+    fn a_last_line_without_an_end_is_an_error() {
+        assert!(done("running", "C closed\n").is_ok());
+        assert!(done("running", "C closed").is_err());
+        assert!(done("walking", "").is_err());
+    }
+}
