@@ -43,6 +43,19 @@ pub struct FinalPay {
 }
 
 impl FinalPay {
+    /// The ten numbers of an 04, in their order there.
+    pub fn of(numbers: &[u64; 10]) -> FinalPay {
+        let [pay4, pay3, pay2, pay1, allowance3, allowance2, allowance1, controls, days, factor] =
+            *numbers;
+        FinalPay {
+            pays: [pay4, pay3, pay2, pay1],
+            allowances: [allowance3, allowance2, allowance1],
+            controls,
+            days,
+            factor,
+        }
+    }
+
     /// Refusal 9.
     pub fn tried(&self) -> Result<(), u64> {
         unless(self.pays.iter().all(|&pay| pay <= LARGEST_PAY), 9)?;
@@ -106,37 +119,19 @@ impl FinalPay {
     }
 }
 
-/// The charge call: refusal and charge.
-#[allow(clippy::too_many_arguments)]
-pub fn charge(
-    pay4: u64,
-    pay3: u64,
-    pay2: u64,
-    pay1: u64,
-    allowance3: u64,
-    allowance2: u64,
-    allowance1: u64,
-    controls: u64,
-    days: u64,
-    factor: u64,
-) -> (u64, u64) {
-    let final_pay = FinalPay {
-        pays: [pay4, pay3, pay2, pay1],
-        allowances: [allowance3, allowance2, allowance1],
-        controls,
-        days,
-        factor,
-    };
+/// The charge call on the numbers of an 04: refusal and charge.
+pub fn charge(call: &[u64; 10]) -> (u64, u64) {
+    let final_pay = FinalPay::of(call);
     match final_pay.tried() {
         Ok(()) => (0, final_pay.charge()),
         Err(refusal) => (refusal, 0),
     }
 }
 
-/// The abatement call: refusal and reduction.
-pub fn abatement(pension: u64, earned: u64, previous_pay: u64, new_pay: u64) -> (u64, u64) {
-    let amounts = [pension, earned, previous_pay, new_pay];
-    if amounts.iter().any(|&amount| amount > LARGEST_AMOUNT) {
+/// The abatement call on pension, earned pension, previous pay and new pay: refusal and reduction.
+pub fn abatement(call: &[u64; 4]) -> (u64, u64) {
+    let [pension, earned, previous_pay, new_pay] = *call;
+    if call.iter().any(|&amount| amount > LARGEST_AMOUNT) {
         return (24, 0);
     }
     if earned > pension {

@@ -81,26 +81,14 @@ pub fn months_before(birth: Date, retirement: Date, pension_age: u64) -> i64 {
     12 * pension_age as i64 - age_in_months(birth, retirement)
 }
 
-/// The dates call: refusal and months early.
-pub fn months_early(
-    birth_year: u64,
-    birth_month: u64,
-    birth_day: u64,
-    retirement_year: u64,
-    retirement_month: u64,
-    retirement_day: u64,
-    pension_age: u64,
-) -> (u64, i64) {
-    let birth = Date {
-        year: birth_year,
-        month: birth_month,
-        day: birth_day,
+/// The dates call on birth, retirement and pension age: refusal and months early.
+pub fn months_early(call: &[u64; 7]) -> (u64, i64) {
+    let date = |at: usize| Date {
+        year: call[at],
+        month: call[at + 1],
+        day: call[at + 2],
     };
-    let retirement = Date {
-        year: retirement_year,
-        month: retirement_month,
-        day: retirement_day,
-    };
+    let (birth, retirement, pension_age) = (date(0), date(3), call[6]);
     match try_dates(birth, retirement, pension_age) {
         Ok(()) => (0, months_before(birth, retirement, pension_age)),
         Err(refusal) => (refusal, 0),
@@ -125,10 +113,10 @@ mod tests {
 
     #[test]
     fn months_are_counted_by_day_numbers() {
-        assert_eq!(months_early(1960, 1, 31, 1960, 2, 29, 55), (0, 660));
-        assert_eq!(months_early(1960, 1, 31, 1960, 3, 30, 55), (0, 659));
-        assert_eq!(months_early(1960, 1, 31, 1960, 3, 31, 55), (0, 658));
-        assert_eq!(months_early(1960, 5, 5, 1960, 5, 5, 75), (0, 900));
-        assert_eq!(months_early(1900, 1, 1, 2100, 12, 31, 55), (0, -1751));
+        assert_eq!(months_early(&[1960, 1, 31, 1960, 2, 29, 55]), (0, 660));
+        assert_eq!(months_early(&[1960, 1, 31, 1960, 3, 30, 55]), (0, 659));
+        assert_eq!(months_early(&[1960, 1, 31, 1960, 3, 31, 55]), (0, 658));
+        assert_eq!(months_early(&[1960, 5, 5, 1960, 5, 5, 75]), (0, 900));
+        assert_eq!(months_early(&[1900, 1, 1, 2100, 12, 31, 55]), (0, -1751));
     }
 }

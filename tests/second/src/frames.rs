@@ -146,13 +146,7 @@ pub fn frame(bytes: &[u8]) -> Result<Frame, u64> {
             whole_time: of[1],
             pay: of[2],
         }),
-        0x04 => Frame::FinalPay(FinalPay {
-            pays: [of[0], of[1], of[2], of[3]],
-            allowances: [of[4], of[5], of[6]],
-            controls: of[7],
-            days: of[8],
-            factor: of[9],
-        }),
+        0x04 => Frame::FinalPay(FinalPay::of(of.as_slice().try_into().expect("ten fields"))),
         0x05 => Frame::Factor(Factor {
             scheme: of[0],
             months: of[1],

@@ -88,29 +88,29 @@ fn a_whole_time_post_passes_the_weighted_week() {
 
 #[test]
 fn months() {
-    assert_eq!(months_early(1970, 4, 1, 2025, 11, 1, 60), (0, 53));
-    assert_eq!(months_early(1967, 11, 1, 2030, 10, 17, 67), (0, 49));
-    assert_eq!(months_early(1967, 11, 1, 2034, 11, 1, 67), (0, 0));
-    assert_eq!(months_early(1967, 11, 1, 2034, 12, 1, 67), (0, -1));
+    assert_eq!(months_early(&[1970, 4, 1, 2025, 11, 1, 60]), (0, 53));
+    assert_eq!(months_early(&[1967, 11, 1, 2030, 10, 17, 67]), (0, 49));
+    assert_eq!(months_early(&[1967, 11, 1, 2034, 11, 1, 67]), (0, 0));
+    assert_eq!(months_early(&[1967, 11, 1, 2034, 12, 1, 67]), (0, -1));
 }
 
 #[test]
 fn charges() {
-    let given = charge(
+    let given = charge(&[
         3_000_000, 3_100_000, 3_200_000, 4_000_000, 65, 65, 65, 7, 7_300, 2_020,
-    );
+    ]);
     assert_eq!(given, (0, 3_433_600));
 }
 
 #[test]
 fn abatements() {
     for (new_pay, reduction) in [(18_000, 2_000), (30_000, 4_000), (16_000, 0)] {
-        let given = abatement(1_000_000, 600_000, 2_000_000, new_pay * 100);
+        let given = abatement(&[1_000_000, 600_000, 2_000_000, new_pay * 100]);
         assert_eq!(given, (0, reduction * 100));
     }
-    assert_eq!(abatement(1_000_000_000_001, 0, 0, 0), (24, 0));
-    assert_eq!(abatement(1, 2, 0, 1_000_000_000_001), (24, 0));
-    assert_eq!(abatement(1, 2, 0, 0), (25, 0));
+    assert_eq!(abatement(&[1_000_000_000_001, 0, 0, 0]), (24, 0));
+    assert_eq!(abatement(&[1, 2, 0, 1_000_000_000_001]), (24, 0));
+    assert_eq!(abatement(&[1, 2, 0, 0]), (25, 0));
 }
 
 #[test]

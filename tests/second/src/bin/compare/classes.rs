@@ -245,25 +245,15 @@ pub const CASE_CLASSES: &[Test<Case>] = &[
     ("a half in a debit", 500, half_in_debit),
 ];
 
-fn final_pay_of(call: &[u64; 10]) -> FinalPay {
-    FinalPay {
-        pays: [call[0], call[1], call[2], call[3]],
-        allowances: [call[4], call[5], call[6]],
-        controls: call[7],
-        days: call[8],
-        factor: call[9],
-    }
-}
-
 /// Whether there is a charge on the final pay of the year.
 fn charged(call: &[u64; 10], year: usize) -> bool {
-    let given = final_pay_of(call);
+    let given = FinalPay::of(call);
     given.final_year() == year && given.charge() > 0
 }
 
 /// Whether an earlier year of the same pay would give another charge.
 fn tie_decides_charge(call: &[u64; 10]) -> bool {
-    let given = final_pay_of(call);
+    let given = FinalPay::of(call);
     let year = given.final_year();
     (year + 1..=3).any(|earlier| {
         given.pay(earlier) == given.pay(year) && given.charge_for(earlier) != given.charge()
@@ -276,12 +266,12 @@ pub const CHARGE_CLASSES: &[Test<[u64; 10]>] = &[
     ("a charge for year 2", 500, |call| charged(call, 2)),
     ("a charge for year 1", 500, |call| charged(call, 1)),
     ("controls 1 to 6 with a charge", 1_000, |call| {
-        (1..7).contains(&call[7]) && final_pay_of(call).charge() > 0
+        (1..7).contains(&call[7]) && FinalPay::of(call).charge() > 0
     }),
     ("controls 7 with a charge", 500, |call| {
-        call[7] == 7 && final_pay_of(call).charge() > 0
+        call[7] == 7 && FinalPay::of(call).charge() > 0
     }),
-    ("no charge", 1_000, |call| final_pay_of(call).charge() == 0),
+    ("no charge", 1_000, |call| FinalPay::of(call).charge() == 0),
     ("equal pays that decide the charge", 500, tie_decides_charge),
     ("year 4 highest", 500, |call| {
         call[1..4].iter().all(|&pay| pay < call[0])
@@ -305,17 +295,7 @@ pub const DATES_CLASSES: &[Test<[u64; 7]>] = &[
 ];
 
 fn months(call: &[u64; 7]) -> i64 {
-    let [year, month, day, retirement_year, retirement_month, retirement_day, age] = *call;
-    months_early(
-        year,
-        month,
-        day,
-        retirement_year,
-        retirement_month,
-        retirement_day,
-        age,
-    )
-    .1
+    months_early(call).1
 }
 
 /// The classes of accepted abatements.
@@ -330,5 +310,5 @@ pub const ABATEMENT_CLASSES: &[Test<[u64; 4]>] = &[
 ];
 
 fn abated(call: &[u64; 4]) -> u64 {
-    second::abatement(call[0], call[1], call[2], call[3]).1
+    second::abatement(call).1
 }

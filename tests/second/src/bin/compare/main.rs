@@ -281,12 +281,7 @@ const CHARGE_CALL: NumbersCall<[u64; 10], u64> = NumbersCall {
     draw: charge_call,
     draw_any: any_charge_call,
     engine: engine::charge,
-    second: |call| {
-        second::charge(
-            call[0], call[1], call[2], call[3], call[4], call[5], call[6], call[7], call[8],
-            call[9],
-        )
-    },
+    second: second::charge,
     causes: CHARGE_CAUSES,
     classes: CHARGE_CLASSES,
 };
@@ -296,11 +291,7 @@ const DATES_CALL: NumbersCall<[u64; 7], i64> = NumbersCall {
     draw: dates_call,
     draw_any: any_dates_call,
     engine: engine::months_early,
-    second: |call| {
-        second::months_early(
-            call[0], call[1], call[2], call[3], call[4], call[5], call[6],
-        )
-    },
+    second: second::months_early,
     causes: DATES_CAUSES,
     classes: DATES_CLASSES,
 };
@@ -310,7 +301,7 @@ const ABATEMENT_CALL: NumbersCall<[u64; 4], u64> = NumbersCall {
     draw: abatement_call,
     draw_any: any_abatement_call,
     engine: engine::abatement,
-    second: |call| second::abatement(call[0], call[1], call[2], call[3]),
+    second: second::abatement,
     causes: ABATEMENT_CAUSES,
     classes: ABATEMENT_CLASSES,
 };

@@ -100,32 +100,25 @@ fn months((refusal, number): (u64, i64)) -> Vec<String> {
 
 fn dates(lines: &[String]) -> Result<Answers, String> {
     let call = numbers::<7>(lines)?;
-    let [year, month, day, out_year, out_month, out_day, age] = call;
     Ok(Answers {
         engine: months(engine::months_early(&call)),
-        second: months(second::months_early(
-            year, month, day, out_year, out_month, out_day, age,
-        )),
+        second: months(second::months_early(&call)),
     })
 }
 
 fn charge(lines: &[String]) -> Result<Answers, String> {
     let call = numbers::<10>(lines)?;
-    let [pay4, pay3, pay2, pay1, rise3, rise2, rise1, controls, days, factor] = call;
     Ok(Answers {
         engine: pence(engine::charge(&call)),
-        second: pence(second::charge(
-            pay4, pay3, pay2, pay1, rise3, rise2, rise1, controls, days, factor,
-        )),
+        second: pence(second::charge(&call)),
     })
 }
 
 fn abatement(lines: &[String]) -> Result<Answers, String> {
     let call = numbers::<4>(lines)?;
-    let [pension, earned, previous_pay, new_pay] = call;
     Ok(Answers {
         engine: pence(engine::abatement(&call)),
-        second: pence(second::abatement(pension, earned, previous_pay, new_pay)),
+        second: pence(second::abatement(&call)),
     })
 }
 

@@ -91,32 +91,14 @@ fn bytes_given(words: &[&str]) -> Option<String> {
 }
 
 fn dates_given(words: &[&str]) -> Option<String> {
-    let numbers: [u64; 7] = numbers(words)?.try_into().ok()?;
-    let [year, month, day, retirement_year, retirement_month, retirement_day, pension_age] =
-        numbers;
-    let (refusal, months) = months_early(
-        year,
-        month,
-        day,
-        retirement_year,
-        retirement_month,
-        retirement_day,
-        pension_age,
-    );
+    let (refusal, months) = months_early(&numbers(words)?.try_into().ok()?);
     Some(format!("refusal {refusal}, {months} months"))
 }
 
 fn charge_given(words: &[&str]) -> Option<String> {
-    let numbers: [u64; 10] = numbers(words)?.try_into().ok()?;
-    let [pay4, pay3, pay2, pay1, allowance3, allowance2, allowance1, controls, days, factor] =
-        numbers;
-    Some(pence(charge(
-        pay4, pay3, pay2, pay1, allowance3, allowance2, allowance1, controls, days, factor,
-    )))
+    Some(pence(charge(&numbers(words)?.try_into().ok()?)))
 }
 
 fn abatement_given(words: &[&str]) -> Option<String> {
-    let numbers: [u64; 4] = numbers(words)?.try_into().ok()?;
-    let [pension, earned, previous_pay, new_pay] = numbers;
-    Some(pence(abatement(pension, earned, previous_pay, new_pay)))
+    Some(pence(abatement(&numbers(words)?.try_into().ok()?)))
 }
