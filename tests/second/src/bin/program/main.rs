@@ -13,7 +13,7 @@ mod running;
 use longest::longest_text;
 use running::{
     after_failed_read, first_read, from_file, in_pieces, interrupted, one_read, to_closed, to_full,
-    with_argument, Ended,
+    to_nobody, with_argument, Ended,
 };
 use second::frames::LARGEST_TEXT;
 use second::{case, printed};
@@ -123,6 +123,14 @@ fn hold_told(program: &str) {
         b"",
         closed,
     );
+    let broken = "canyonsieve-case: standard output: Broken pipe\n";
+    for (what, ignored, errors) in [
+        ("a pipe that nobody reads", false, ""),
+        ("the same, its signal ignored", true, broken),
+    ] {
+        let given = to_nobody(program, PRINTED_CASE, ignored);
+        hold(what, &given, b"", errors);
+    }
     let usage = "usage: canyonsieve-case < TEXT    (no arguments; man canyonsieve-case)\n";
     for argument in ["--help", "case.txt", ""] {
         let what = format!("with the argument {argument:?}");

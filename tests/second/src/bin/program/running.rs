@@ -4,6 +4,7 @@ use std::fs::{self, File};
 use std::io::{self, ErrorKind, Read, Write};
 use std::os::fd::OwnedFd;
 use std::os::unix::net::UnixStream;
+use std::os::unix::process::ExitStatusExt;
 use std::process::{Child, Command, Stdio};
 use std::thread::sleep;
 use std::time::{Duration, Instant};
@@ -19,6 +20,7 @@ extern "C" {
     fn kill(process: i32, signal: i32) -> i32;
 }
 
+const SIGPIPE: i32 = 13;
 const SIGSTOP: i32 = 19;
 const SIGCONT: i32 = 18;
 
@@ -32,9 +34,19 @@ fn started(program: &str, arguments: &[&str], input: Stdio) -> Child {
     command.spawn().expect("a program that starts")
 }
 
+/// The end of a program, by itself with status 0.
 fn ended(child: Child) -> Ended {
+    ended_by(child, None)
+}
+
+/// The end of a program, by itself with status 0 or by a signal.
+fn ended_by(child: Child, signal: Option<i32>) -> Ended {
     let given = child.wait_with_output().expect("a program that ends");
-    assert!(given.status.success(), "{:?}", given.status);
+    let status = given.status;
+    assert_eq!(
+        (status.success(), status.signal()),
+        (signal.is_none(), signal)
+    );
     Ended {
         output: String::from_utf8_lossy(&given.stdout).into(),
         errors: String::from_utf8_lossy(&given.stderr).into(),
@@ -142,20 +154,31 @@ pub fn to_full(program: &str, text: &[u8]) -> Ended {
     let mut command = Command::new(program);
     command.stdin(Stdio::piped()).stderr(Stdio::piped());
     command.stdout(full.expect("a full device"));
-    with_text(command.spawn().expect("a program that starts"), text)
+    let child = command.spawn().expect("a program that starts");
+    ended(fed(child, text))
 }
 
 /// Standard output is closed.
 pub fn to_closed(program: &str, text: &[u8]) -> Ended {
     let child = started("sh", &["-c", "exec \"$0\" >&-", program], Stdio::piped());
-    with_text(child, text)
+    ended(fed(child, text))
 }
 
-fn with_text(mut child: Child, text: &[u8]) -> Ended {
+/// Standard output is a pipe that nobody reads any more, of which the system tells by a signal. The
+/// program ends by it, or where its caller has it ignored goes on.
+pub fn to_nobody(program: &str, text: &[u8], ignored: bool) -> Ended {
+    let trap = if ignored { "trap '' PIPE;" } else { "" };
+    let command = format!("{trap} exec \"$0\"");
+    let mut child = started("sh", &["-c", &command, program], Stdio::piped());
+    drop(child.stdout.take());
+    ended_by(fed(child, text), (!ignored).then_some(SIGPIPE))
+}
+
+/// A program that has been given a text, whole, through its pipe.
+fn fed(mut child: Child, text: &[u8]) -> Child {
     let mut input = child.stdin.take().expect("a pipe");
     input.write_all(text).expect("a text written");
-    drop(input);
-    ended(child)
+    child
 }
 
 /// Started with an argument and without input.
