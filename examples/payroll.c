@@ -112,7 +112,9 @@ int main(void)
         "03038408CA00124F80\n";
     static const char without_factor[] = "0107AF0B0107EE0A110043\n";
 
-    int failed = print_year("20 hours at 10,000 pounds and 20 hours at 12,000 pounds, both of 37.5 hours", equal_weeks, 2);
+    int failed = 0;
+
+    failed |= print_year("20 hours at 10,000 pounds and 20 hours at 12,000 pounds, both of 37.5 hours", equal_weeks, 2);
     failed |= print_year("20 hours of 37.5 at 53,000 pounds and 19 hours of 40 at 47,500 pounds", differing_weeks, 2);
 
     struct canyonsieve_figure charge =
@@ -121,7 +123,8 @@ int main(void)
     if (charge.refusal == CANYONSIEVE_ACCEPTED)
         pounds("final pay charge", charge.number, "once");
 
-    failed |= print_case("25 hours at 26,000 pounds and 15 hours at 12,000 pounds, one year", printed, sizeof printed - 1);
+    failed |= print_case("25 hours at 26,000 pounds and 15 hours at 12,000 pounds, one year", printed,
+                         sizeof printed - 1);
 
     /* Refused, and meant to be: 49 months early, and no factor frame. */
     failed |= !print_case("49 months early without a factor", without_factor, sizeof without_factor - 1);

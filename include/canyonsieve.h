@@ -13,7 +13,8 @@
  * several threads may call at once.
  *
  * docs/FRAMES.md says how a text is written, byte by byte, and docs/RULES.md by which steps it is worked, with examples
- * and a glossary; both are installed under share/doc/canyonsieve. Link with libcanyonsieve.a, which is for x86-64 Linux.
+ * and a glossary; both are installed under share/doc/canyonsieve. Link with libcanyonsieve.a, which is for x86-64
+ * Linux.
  */
 #ifndef CANYONSIEVE_H
 #define CANYONSIEVE_H
@@ -104,7 +105,8 @@ CANYONSIEVE_CHECKED static inline const char *canyonsieve_refusal_words(uint64_t
     case CANYONSIEVE_TEXT_LENGTH:
         return "a text over 32,768 bytes";
     case CANYONSIEVE_LINE:
-        return "a line that is empty, has another character than 0-9 and A-F or an odd count of digits, or lacks its line feed";
+        return "a line that is empty, has another character than 0-9 and A-F or an odd count of digits, "
+               "or lacks its line feed";
     case CANYONSIEVE_FRAME:
         return "an unknown kind of frame or a wrong length";
     case CANYONSIEVE_ORDER:
@@ -174,9 +176,9 @@ struct canyonsieve_outcome {
  * in pence 4.
  *
  * parts: this many places, lent by the caller. With H the contracted minutes of all posts together, a minute
- * has H parts: parts / H is whole minutes, and parts % H the part of a minute over H. Accepted, the first places get the
- * parts that count for each post, in the order of the posts, 0 included; places past the last post stay as they are.
- * Refused, no place is written.
+ * has H parts: parts / H is whole minutes, and parts % H the part of a minute over H. Accepted, the first places get
+ * the parts that count for each post, in the order of the posts, 0 included; places past the last post stay as they
+ * are. Refused, no place is written.
  *
  * Both stay the caller's, and nothing of them is kept. They must not overlap. A pointer may be NULL only
  * where its length or its places are 0.
@@ -198,16 +200,17 @@ CANYONSIEVE_CHECKED struct canyonsieve_figure canyonsieve_charge(uint64_t pay4, 
                                                                  uint64_t allowance2, uint64_t allowance1,
                                                                  uint64_t controls, uint64_t days, uint64_t factor);
 
-/* A whole case: the net pension of the 2015 Scheme, the net pension and lump sum of the 1995 Section, and the employer's
- * final pay charge. The pensions are for a year, the lump sum and the charge once. No other division of the hours of the
- * posts and no other of the last three years as final pay would give a larger net pension of both schemes together, or a
- * larger net lump sum.
+/* A whole case: the net pension of the 2015 Scheme, the net pension and lump sum of the 1995 Section, and the
+ * employer's final pay charge. The pensions are for a year, the lump sum and the charge once. No other division of the
+ * hours of the posts and no other of the last three years as final pay would give a larger net pension of both schemes
+ * together, or a larger net lump sum.
  *
  * text: length bytes, lines of digits 0-9 and A-F, two to a byte, each line ended by a line feed and holding one frame;
- * docs/FRAMES.md has the frames. It stays the caller's, and nothing of it is kept. It may be NULL only where length is 0.
+ * docs/FRAMES.md has the frames. It stays the caller's, and nothing of it is kept. It may be NULL only where length is
+ * 0.
  *
- * Refusals: 1, the text is too long (line 0); then line by line, the first line being 1, and the first line that is refused
- * ends the reading: 2, 3, 4, then 5 to 11 by the frame's own fields; at the end, line 0: 4, 12, 13, 14.
+ * Refusals: 1, the text is too long (line 0); then line by line, the first line being 1, and the first line that is
+ * refused ends the reading: 2, 3, 4, then 5 to 11 by the frame's own fields; at the end, line 0: 4, 12, 13, 14.
  *
  * It needs under 8 kilobytes of stack, the other calls under 4. */
 CANYONSIEVE_CHECKED struct canyonsieve_outcome canyonsieve_case(const uint8_t *text, size_t length);
