@@ -38,7 +38,8 @@ header:
 # Copies what `make` built, and neither proves nor compiles anything: it may run as another user.
 install:
 	@test -f $(LIBRARY) && test -f $(PROGRAM) || { echo "nothing is built yet: run make first" >&2; exit 1; }
-	install -d "$(DEST)/lib/pkgconfig" "$(DEST)/include" "$(DEST)/bin" "$(DEST)/share/man/man1" "$(DEST)/share/doc/canyonsieve"
+	install -d "$(DEST)/lib/pkgconfig" "$(DEST)/include" "$(DEST)/bin" "$(DEST)/share/man/man1" \
+		"$(DEST)/share/doc/canyonsieve"
 	install -m 644 $(LIBRARY) "$(DEST)/lib/libcanyonsieve.a"
 	install -m 644 $(HEADER) "$(DEST)/include/canyonsieve.h"
 	sed "s|@PREFIX@|$$(printf %s "$(PREFIX)" | sed 's/[&|\\]/\\&/g')|; s|@VERSION@|$(VERSION)|" canyonsieve.pc.in \
@@ -78,7 +79,8 @@ payroll: library program
 	$(MAKE) install DESTDIR= PREFIX="$(STAGE)"
 	test "$$(pkg-config --modversion canyonsieve)" = "$(VERSION)"
 	mkdir -p target/c
-	eval "$(CC) -std=c99 $(STRICT) $(CFLAGS) examples/payroll.c $$(pkg-config --cflags --libs canyonsieve) -o target/c/payroll"
+	eval "$(CC) -std=c99 $(STRICT) $(CFLAGS) examples/payroll.c \
+		$$(pkg-config --cflags --libs canyonsieve) -o target/c/payroll"
 	target/c/payroll | cmp - examples/payroll.out
 	eval "$(CXX) -std=c++17 $(STRICT) $(CFLAGS) -x c++ examples/payroll.c -x none \
 		$$(pkg-config --cflags --libs canyonsieve) -o target/c/payroll"

@@ -17,13 +17,16 @@ static void pounds(const char *what, uint64_t pence, const char *how_often)
     printf("%s: %" PRIu64 ".%02" PRIu64 " pounds, %s\n", what, pence / 100, pence % 100, how_often);
 }
 
-/* Says why a call was refused, and whether it was. */
+/* Says why a call was refused, with the line of the text where it has one, and whether it was. */
 static int refused(const char *what, uint64_t refusal, uint64_t line)
 {
-    if (refusal != CANYONSIEVE_ACCEPTED)
-        printf("%s: refusal %" PRIu64 " at line %" PRIu64 ": %s\n", what, refusal, line,
-               canyonsieve_refusal_words(refusal));
-    return refusal != CANYONSIEVE_ACCEPTED;
+    if (refusal == CANYONSIEVE_ACCEPTED)
+        return 0;
+    printf("%s: refusal %" PRIu64, what, refusal);
+    if (line != 0)
+        printf(" at line %" PRIu64, line);
+    printf(": %s\n", canyonsieve_refusal_words(refusal));
+    return 1;
 }
 
 /* Puts a number at the start of bytes, the highest byte first. */

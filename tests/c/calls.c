@@ -336,7 +336,8 @@ static void words(void)
         int is_refusal = n <= CANYONSIEVE_DEBIT_ABOVE || n >= CANYONSIEVE_POST_COUNT;
         same(__LINE__, "words of its own", strcmp(canyonsieve_refusal_words(n), none) != 0, (uint64_t)is_refusal);
         for (uint64_t m = 0; is_refusal && m < n; m++)
-            same(__LINE__, "the same words", strcmp(canyonsieve_refusal_words(n), canyonsieve_refusal_words(m)) == 0, 0);
+            same(__LINE__, "the same words",
+                 strcmp(canyonsieve_refusal_words(n), canyonsieve_refusal_words(m)) == 0, 0);
     }
     for (size_t i = 0; i < COUNT(others); i++)
         same(__LINE__, "words for no refusal", strcmp(canyonsieve_refusal_words(others[i]), none) == 0, 1);
@@ -367,7 +368,8 @@ static void limits(void)
     years(__LINE__, 1, CANYONSIEVE_MAX_PAY, 0, 0, 18518519);
     years(__LINE__, 1, CANYONSIEVE_MAX_PAY + UINT64_C(1), CANYONSIEVE_POST, 3, 0);
     /* Posts of noughts are refused one by one where their number passes, bytes of noughts as a line. */
-    figure(__LINE__, canyonsieve_posts(zeros, sizeof zeros - CANYONSIEVE_BYTES_OF_POST, parts, COUNT(parts)), CANYONSIEVE_POST, 0);
+    figure(__LINE__, canyonsieve_posts(zeros, sizeof zeros - CANYONSIEVE_BYTES_OF_POST, parts, COUNT(parts)),
+           CANYONSIEVE_POST, 0);
     figure(__LINE__, canyonsieve_posts(zeros, sizeof zeros, parts, COUNT(parts)), CANYONSIEVE_POST_COUNT, 0);
     same(__LINE__, "refusal", canyonsieve_case(text, CANYONSIEVE_MAX_TEXT).refusal, CANYONSIEVE_LINE);
     same(__LINE__, "refusal", canyonsieve_case(text, CANYONSIEVE_MAX_TEXT + 1).refusal, CANYONSIEVE_TEXT_LENGTH);
