@@ -1,5 +1,6 @@
-/* A payroll program: the pensionable pay of posts with the hours that count and those left out, a final pay charge, and
- * whole cases. Pensions and pays are amounts for a year; a lump sum and a charge are paid once. */
+/* A payroll program: the pensionable pay of posts with the hours that count and those left out, a final pay charge, the
+ * charges of two employers, and whole cases. Pensions and pays are amounts for a year; a lump sum and a charge are paid
+ * once. */
 #include <canyonsieve.h>
 
 #include <inttypes.h>
@@ -89,6 +90,17 @@ static int print_year(const char *title, const struct post *posts, size_t count)
     return 0;
 }
 
+/* The charges for a change of employer in year 2. */
+static int print_change(const char *title, struct canyonsieve_charges charges)
+{
+    printf("%s\n", title);
+    if (refused("change of employer", charges.refusal, 0))
+        return 1;
+    pounds("the old employer's charge", charges.old_charge, "once");
+    pounds("the new employer's charge", charges.new_charge, "once");
+    return 0;
+}
+
 /* A whole case. */
 static int print_case(const char *title, const char *text, size_t length)
 {
@@ -125,6 +137,10 @@ int main(void)
     failed |= refused("final pay charge", charge.refusal, 0);
     if (charge.refusal == CANYONSIEVE_ACCEPTED)
         pounds("final pay charge", charge.number, "once");
+
+    failed |= print_change("35,000 pounds in 181 days, then 45,000 pounds in 184 days with another employer",
+                           canyonsieve_change_of_employer(5900000, 6000000, 8000000, 9750000, 65, 65, 65, 7, 11680,
+                                                          2020, 3500000, 181, 4500000, 184, 20));
 
     failed |= print_case("25 hours at 26,000 pounds and 15 hours at 12,000 pounds, one year", printed,
                          sizeof printed - 1);

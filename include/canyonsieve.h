@@ -28,10 +28,10 @@ extern "C" {
 
 /* The version of this interface. It is raised by one when a function is added, when a struct or a frame changes, and
  * when a kind of frame is added. Code that was written for one version asks for it:
- *     #if CANYONSIEVE_VERSION != 2
+ *     #if CANYONSIEVE_VERSION != 3
  *     #error "another version of canyonsieve.h"
  *     #endif */
-#define CANYONSIEVE_VERSION 2
+#define CANYONSIEVE_VERSION 3
 
 /* The limits. */
 #define CANYONSIEVE_MAX_POSTS 16         /* posts of a year */
@@ -69,7 +69,8 @@ enum canyonsieve_refusal {
     /* A second whole-time post. */
     CANYONSIEVE_SECOND_WHOLE_TIME = 8,
     /* A pay above 1,000,000,000 pence, an allowance above 1,000 thousandths, controls above 7, more than
-     * 16,425 days, or a factor of 0 or above 10,000 hundredths. */
+     * 16,425 days, or a factor of 0 or above 10,000 hundredths; in a change of employer also a pay with an employer
+     * or a price increase above the same limits. */
     CANYONSIEVE_FINAL_PAY = 9,
     /* A factor frame with a scheme that the member does not have, months outside 1 to 600, a factor above 1,000,
      * a lump factor for the 2015 Scheme, or not after the previous one. */
@@ -92,7 +93,10 @@ enum canyonsieve_refusal {
     /* An amount above 1,000,000,000,000 pence. */
     CANYONSIEVE_AMOUNT = 24,
     /* Earned pension above the pension. */
-    CANYONSIEVE_EARNED = 25
+    CANYONSIEVE_EARNED = 25,
+    /* A change of employer in year 2 in which an employer has no days, both together have more than 366, or final
+     * pay is not that of year 1. */
+    CANYONSIEVE_EMPLOYERS = 26
 };
 
 /* A refusal in words, for a message to a person; for a number that is no refusal, words that say so. Never NULL, and
@@ -141,6 +145,8 @@ CANYONSIEVE_CHECKED static inline const char *canyonsieve_refusal_words(uint64_t
         return "an amount above 1,000,000,000,000 pence";
     case CANYONSIEVE_EARNED:
         return "an earned pension above the pension";
+    case CANYONSIEVE_EMPLOYERS:
+        return "an employer without days, more than 366 days of both, or a final pay that is not that of year 1";
     default:
         return "no refusal of this version";
     }
@@ -156,6 +162,13 @@ struct canyonsieve_figure {
 struct canyonsieve_months {
     uint64_t refusal;
     int64_t months;
+};
+
+/* A refusal, 0 for none, and the charges of two employers in pence, both 0 when refused. */
+struct canyonsieve_charges {
+    uint64_t refusal;
+    uint64_t old_charge; /* what the old employer pays, once */
+    uint64_t new_charge; /* what the new employer pays, once */
 };
 
 /* A refusal, 0 for none, the line of the text that it is about, 0 for no line, and four amounts in pence, all 0 when
@@ -199,6 +212,25 @@ CANYONSIEVE_CHECKED struct canyonsieve_figure canyonsieve_charge(uint64_t pay4, 
                                                                  uint64_t pay1, uint64_t allowance3,
                                                                  uint64_t allowance2, uint64_t allowance1,
                                                                  uint64_t controls, uint64_t days, uint64_t factor);
+
+/* The final pay charges of both employers, in pence, each paid once, where the member changed employer once, in year 2,
+ * the year before the last.
+ *
+ * pay4 to factor: the ten numbers of canyonsieve_charge. pay2 is the pay of the whole of year 2; it is not held against
+ * the two pays that follow. old_pay, old_days: the pay in pence with the old employer in year 2, and its days; new_pay,
+ * new_days: the same with the new employer. Both pays are brought to a year of 365 days. price_increase: the rise of
+ * prices in the final year, in thousandths, by which the old employer's excess is raised.
+ *
+ * The old employer's charge is 0 where year 2 is not controlled, the new employer's where year 1 is not. What
+ * canyonsieve_charge gives for the ten numbers is the bill of a single employer; it is neither charge nor their sum.
+ *
+ * Refusals, tried in this order: 9, one of the ten numbers is out of range, a pay with an employer is above
+ * 1,000,000,000 pence, or the price increase is above 1,000; 26, an employer has no days, both together have more than
+ * 366, or final pay is not that of year 1: pay3 or pay2 is above pay1. */
+CANYONSIEVE_CHECKED struct canyonsieve_charges canyonsieve_change_of_employer(
+    uint64_t pay4, uint64_t pay3, uint64_t pay2, uint64_t pay1, uint64_t allowance3, uint64_t allowance2,
+    uint64_t allowance1, uint64_t controls, uint64_t days, uint64_t factor, uint64_t old_pay, uint64_t old_days,
+    uint64_t new_pay, uint64_t new_days, uint64_t price_increase);
 
 /* A whole case: the net pension of the 2015 Scheme, the net pension and lump sum of the 1995 Section, and the
  * employer's final pay charge. The pensions are for a year, the lump sum and the charge once. No other division of the

@@ -38,6 +38,13 @@ static void months(int line, struct canyonsieve_months got, uint64_t refusal, in
     same(line, "months", (uint64_t)got.months, (uint64_t)expected);
 }
 
+static void both(int line, struct canyonsieve_charges got, uint64_t refusal, uint64_t old_charge, uint64_t new_charge)
+{
+    same(line, "refusal", got.refusal, refusal);
+    same(line, "charge of the old employer", got.old_charge, old_charge);
+    same(line, "charge of the new employer", got.new_charge, new_charge);
+}
+
 /* A post of the paper. */
 struct post {
     unsigned h, w;
@@ -204,6 +211,86 @@ static void charges(void)
     charge_with(__LINE__, 9, 0, CANYONSIEVE_FINAL_PAY, 0);
 }
 
+enum { PAY4, PAY3, PAY2, PAY1, CONTROLS = 7, OLD_PAY = 10, OLD_DAYS, NEW_PAY, NEW_DAYS, PRICE_INCREASE, NUMBERS };
+
+/* Source document 000, example 3. */
+static const uint64_t example_3[NUMBERS] = {5900000, 6000000, 8000000, 9750000, 65,      65,  65, 7,
+                                            11680,   2020,    3500000, 181,     4500000, 184, 20};
+
+static struct canyonsieve_charges change(const uint64_t n[NUMBERS])
+{
+    return canyonsieve_change_of_employer(n[0], n[1], n[2], n[3], n[4], n[5], n[6], n[7], n[8], n[9], n[10], n[11],
+                                          n[12], n[13], n[14]);
+}
+
+/* Example 3 with two of its numbers replaced. */
+static struct canyonsieve_charges changed(unsigned at, uint64_t n, unsigned other, uint64_t m)
+{
+    uint64_t c[NUMBERS];
+
+    memcpy(c, example_3, sizeof c);
+    c[at] = n;
+    c[other] = m;
+    return change(c);
+}
+
+static struct canyonsieve_charges changed_one(unsigned at, uint64_t n)
+{
+    return changed(at, n, at, n);
+}
+
+/* Every number out of range, and 9 where 26 is due too. */
+static void changes_out_of_range(void)
+{
+    static const uint64_t most[NUMBERS] = {1000000000, 1000000000, 1000000000, 1000000000, 1000,       1000, 1000, 7,
+                                           16425,      10000,      1000000000, 366,        1000000000, 366,  1000};
+
+    for (unsigned i = 0; i < NUMBERS; i++) {
+        uint64_t refusal = i == OLD_DAYS || i == NEW_DAYS ? CANYONSIEVE_EMPLOYERS : CANYONSIEVE_FINAL_PAY;
+        both(__LINE__, changed_one(i, most[i] + 1), refusal, 0, 0);
+        both(__LINE__, changed_one(i, UINT64_MAX), refusal, 0, 0);
+        /* Numbers that would stand if they were cut to 8, 16 or 32 bits. */
+        both(__LINE__, changed_one(i, (UINT64_C(1) << 40) + 1), refusal, 0, 0);
+        both(__LINE__, changed_one(i, (UINT64_C(1) << 32) + 1), refusal, 0, 0);
+        if (refusal == CANYONSIEVE_FINAL_PAY)
+            both(__LINE__, changed(i, most[i] + 1, NEW_DAYS, 0), refusal, 0, 0);
+    }
+    both(__LINE__, changed_one(9, 0), CANYONSIEVE_FINAL_PAY, 0, 0);
+}
+
+/* 26: no days, too many days together, final pay of another year. */
+static void changes_refused(void)
+{
+    both(__LINE__, changed_one(OLD_DAYS, 0), CANYONSIEVE_EMPLOYERS, 0, 0);
+    both(__LINE__, changed_one(NEW_DAYS, 0), CANYONSIEVE_EMPLOYERS, 0, 0);
+    both(__LINE__, changed(OLD_DAYS, 182, NEW_DAYS, 185), CANYONSIEVE_EMPLOYERS, 0, 0);
+    both(__LINE__, changed(OLD_DAYS, 366, NEW_DAYS, 1), CANYONSIEVE_EMPLOYERS, 0, 0);
+    both(__LINE__, changed(OLD_DAYS, UINT64_MAX, NEW_DAYS, 2), CANYONSIEVE_EMPLOYERS, 0, 0);
+    both(__LINE__, changed(OLD_DAYS, UINT64_C(1) << 63, NEW_DAYS, UINT64_C(1) << 63), CANYONSIEVE_EMPLOYERS, 0, 0);
+    both(__LINE__, changed(OLD_DAYS, 367, OLD_PAY, 0), CANYONSIEVE_EMPLOYERS, 0, 0);
+    both(__LINE__, changed_one(PAY2, 9750001), CANYONSIEVE_EMPLOYERS, 0, 0);
+    both(__LINE__, changed_one(PAY3, 9750001), CANYONSIEVE_EMPLOYERS, 0, 0);
+}
+
+static void changes_of_employer(void)
+{
+    static const uint64_t largest[NUMBERS] = {0,     0,     0,          1000000000, 0, 0, 0,   7,
+                                              16425, 10000, 1000000000, 1,          0, 1, 1000};
+
+    both(__LINE__, change(example_3), 0, 6323114, 2256339);
+    both(__LINE__, change(largest), 0, UINT64_C(42294375000000), UINT64_C(57937500000));
+    /* Bit 1 is the old employer's, bit 2 the new one's. */
+    for (uint64_t controls = 0; controls < 8; controls++)
+        both(__LINE__, changed_one(CONTROLS, controls), 0, controls & 2 ? 6323114 : 0, controls & 4 ? 2256339 : 0);
+    /* 365 days in a year of 366 too. */
+    both(__LINE__, changed_one(NEW_DAYS, 185), 0, 6323114, 2733215);
+    both(__LINE__, changed(OLD_PAY, 3000000, NEW_PAY, 9000000), 0, 0, 0);
+    both(__LINE__, changed_one(PAY2, 9750000), 0, 6323114, 2256339);
+    both(__LINE__, changed_one(PAY3, 9750000), 0, 3465198, 2256339);
+    both(__LINE__, changed_one(PRICE_INCREASE, 0), 0, 6199133, 2256339);
+    both(__LINE__, changed_one(PRICE_INCREASE, 1000), 0, 12398289, 2256339);
+}
+
 static void dates(void)
 {
     /* Starred figures. */
@@ -329,10 +416,10 @@ static void cases(void)
 /* Each refusal has words of its own, and any other number the same words. */
 static void words(void)
 {
-    static const uint64_t others[] = {15, 20, 26, 255, (UINT64_C(1) << 32) + 7, UINT64_MAX};
+    static const uint64_t others[] = {15, 20, 27, 255, (UINT64_C(1) << 32) + 7, UINT64_MAX};
     const char *none = canyonsieve_refusal_words(UINT64_C(1) << 40);
 
-    for (uint64_t n = 0; n <= CANYONSIEVE_EARNED; n++) {
+    for (uint64_t n = 0; n <= CANYONSIEVE_EMPLOYERS; n++) {
         int is_refusal = n <= CANYONSIEVE_DEBIT_ABOVE || n >= CANYONSIEVE_POST_COUNT;
         same(__LINE__, "words of its own", strcmp(canyonsieve_refusal_words(n), none) != 0, (uint64_t)is_refusal);
         for (uint64_t m = 0; is_refusal && m < n; m++)
@@ -381,6 +468,9 @@ int main(void)
     posts_refused();
     sixteen_posts();
     charges();
+    changes_of_employer();
+    changes_refused();
+    changes_out_of_range();
     dates();
     abatements();
     cases();

@@ -63,11 +63,23 @@ static uint64_t number(const uint8_t *data, size_t size, size_t at)
     return n;
 }
 
+/* A change of employer. Neither charge is larger than the largest there is. */
+static void change(const uint64_t n[15])
+{
+    struct canyonsieve_charges c =
+        canyonsieve_change_of_employer(n[0], n[1], n[2], n[3], n[4], n[5], n[6], n[7], n[8], n[9], n[10], n[11], n[12],
+                                       n[13], n[14]);
+    claim(c.refusal == 0 || (c.old_charge == 0 && c.new_charge == 0));
+    claim(c.refusal == 0 || c.refusal == 9 || c.refusal == 26);
+    claim(c.old_charge <= UINT64_C(42294375000000) && c.new_charge <= UINT64_C(57937500000));
+}
+
 static void numbers(const uint8_t *data, size_t size)
 {
-    uint64_t n[10];
-    for (size_t i = 0; i < 10; i++)
+    uint64_t n[15];
+    for (size_t i = 0; i < 15; i++)
         n[i] = number(data, size, i);
+    change(n);
     figure(canyonsieve_charge(n[0], n[1], n[2], n[3], n[4], n[5], n[6], n[7], n[8], n[9]));
     figure(canyonsieve_abatement(n[0], n[1], n[2], n[3]));
     struct canyonsieve_months m = canyonsieve_months_early(n[0], n[1], n[2], n[3], n[4], n[5], n[6]);

@@ -16,7 +16,7 @@ ghost use Rattle.benefits.specs.Bounds.{FinalPayBounds};
 pub const HIGHEST_REVALUATION: u64 = 2000;
 
 // The highest allowance of a year, in thousandths.
-const HIGHEST_ALLOWANCE: u64 = 1000;
+pub const HIGHEST_ALLOWANCE: u64 = 1000;
 
 // The most days of service.
 const MOST_DAYS: u64 = 16425;
@@ -81,7 +81,7 @@ fn lower(one: Pence, other: Pence) -> Pence
 }
 
 // One amount less another, not below 0.
-fn less(one: Pence, other: Pence) -> Pence
+pub fn less(one: Pence, other: Pence) -> Pence
     ensures { λ r. ⌜ r .0 ≡ one .0 - other .0 ⌝ }
 {
     if one.0 < other.0 {
@@ -182,7 +182,7 @@ pub fn lump_debit(debit: Pence) -> Pence
 }
 
 // Whether a year's control bit is 1.
-fn controlled(controls: u64, year: u64) -> bool
+pub fn controlled(controls: u64, year: u64) -> bool
     ensures { λ r. ⌜ r ≡ controlled controls year ⌝ }
 {
     if year == 3 {
@@ -195,7 +195,7 @@ fn controlled(controls: u64, year: u64) -> bool
 }
 
 // A pay raised by an allowance in thousandths.
-fn raised(pay: Pence, allowance: u64) -> Pence
+pub fn raised(pay: Pence, allowance: u64) -> Pence
     requires { ⌜ (pay .0 ≤ highestAmount) × (allowance ≤ highestAllowance) ⌝ }
     ensures { λ r. ⌜ r .0 ≡ raised (pay .0) allowance ⌝ }
 {
@@ -240,7 +240,7 @@ fn allowed_from(f: FinalPay, year: u64, base: Pence) -> Pence
 }
 
 // The allowed pay of year 3, 2 or 1. From year 2 on it builds on the lower of pay and allowed pay of the year before.
-fn allowed_in(f: FinalPay, year: u64) -> Pence
+pub fn allowed_in(f: FinalPay, year: u64) -> Pence
     requires { ⌜ FinalPayBounds f ⌝ }
     ensures { λ r. ⌜ r .0 ≡ allowedIn f year ⌝ }
 {

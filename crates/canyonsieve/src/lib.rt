@@ -1,4 +1,6 @@
 // The functions that payroll code in C calls. include/canyonsieve.h declares them.
+mod employers;
+
 use benefits::FinalPay;
 use benefits::abatement_call;
 use benefits::charge_call;
@@ -6,6 +8,7 @@ use calendar::Date;
 use calendar::dates_call;
 use calendar::refusal_number;
 use calendar::signed;
+pub use employers::canyonsieve_change_of_employer;
 use measures::Answer;
 use measures::Pence;
 use posts::posts_call;
@@ -36,6 +39,14 @@ pub struct Figure {
 pub struct MonthsFigure {
     pub refusal: u64,
     pub months: i64,
+}
+
+// A refusal, 0 for none, and the charges of the old and the new employer beside it, 0 when refused.
+#[repr(C)]
+pub struct ChargeFigures {
+    pub refusal: u64,
+    pub old_charge: u64,
+    pub new_charge: u64,
 }
 
 // A refusal with its line, 0 for none, and the amounts in pence, all 0 when refused.

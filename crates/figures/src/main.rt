@@ -6,8 +6,10 @@
 //   D LABEL|Y M D Y M D AGE       the dates call on birth, retirement and pension age;
 //   C LABEL|PAYS TERMS            the charge call on the pays of years 4, 3, 2, 1, the allowances of years 3, 2, 1, the controls,
 //                                 the days and the factor;
+//   E LABEL|PAYS TERMS CHANGE     the call on a change of employer: after the numbers of C the old employer's pay and days in
+//                                 year 2, the new employer's, and the price increase;
 //   A LABEL|AMOUNTS               the abatement call on the pension, the earned pension, previous pay and new pay.
-// The file stdout has what document 01 says of them.
+// The file stdout has what the papers say of them.
 mod calls;
 mod lines;
 mod years;
@@ -15,6 +17,7 @@ mod years;
 use calls::abatement;
 use calls::charge;
 use calls::dates;
+use calls::employers;
 use input::end_at;
 use input::numbers_in;
 use input::read_input;
@@ -26,7 +29,7 @@ ghost use lib.ListN.{length};
 
 // Makes the call of a command on words, each after one byte that parts it from what stands before.
 fn call(command: u8, label: &[u8], words: &[u8]) {
-    let mut n = [0u64; 10];
+    let mut n = [0u64; 15];
     numbers_in(words, &mut n);
     match command {
         b'P' => on_posts(label, words),
@@ -34,6 +37,7 @@ fn call(command: u8, label: &[u8], words: &[u8]) {
         b'B' => on_hexadecimal(label, words, n[0]),
         b'D' => dates(label, &n),
         b'C' => charge(label, &n),
+        b'E' => employers(label, &n),
         b'A' => abatement(label, &n),
         _ => {}
     }

@@ -1,0 +1,2 @@
+pub mod Employers
+pub mod Bounds
