@@ -71,7 +71,7 @@ impl FinalPay {
     }
 
     /// Whether the rise to year 3, 2 or 1 is controlled.
-    fn controlled(&self, year: usize) -> bool {
+    pub fn controlled(&self, year: usize) -> bool {
         let bit = [4, 2, 1][year - 1];
         self.controls / bit % 2 == 1
     }
@@ -94,7 +94,7 @@ impl FinalPay {
     }
 
     /// The allowed pay of year 3, 2 or 1.
-    fn allowed(&self, year: usize) -> u64 {
+    pub fn allowed(&self, year: usize) -> u64 {
         if !self.controlled(year) {
             return self.pay(year);
         }
@@ -113,7 +113,11 @@ impl FinalPay {
 
     /// The charge if the pay of a year were the final pay.
     pub fn charge_for(&self, year: usize) -> u64 {
-        let excess = self.pay(year).saturating_sub(self.allowed(year));
+        self.charge_from(self.pay(year).saturating_sub(self.allowed(year)))
+    }
+
+    /// The charge that an excess becomes.
+    pub fn charge_from(&self, excess: u64) -> u64 {
         let pension = self.by_days(excess);
         rounded(u128::from(pension) * u128::from(self.factor), 100) + 3 * pension
     }

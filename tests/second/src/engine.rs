@@ -15,6 +15,13 @@ struct Months {
 }
 
 #[repr(C)]
+struct Charges {
+    refusal: u64,
+    old_charge: u64,
+    new_charge: u64,
+}
+
+#[repr(C)]
 struct CaseOutcome {
     refusal: u64,
     line: u64,
@@ -49,6 +56,23 @@ extern "C" {
         pension_age: u64,
     ) -> Months;
     fn canyonsieve_abatement(pension: u64, earned: u64, previous_pay: u64, new_pay: u64) -> Figure;
+    fn canyonsieve_change_of_employer(
+        pay4: u64,
+        pay3: u64,
+        pay2: u64,
+        pay1: u64,
+        allowance3: u64,
+        allowance2: u64,
+        allowance1: u64,
+        controls: u64,
+        days: u64,
+        factor: u64,
+        old_pay: u64,
+        old_days: u64,
+        new_pay: u64,
+        new_days: u64,
+        price_increase: u64,
+    ) -> Charges;
     fn canyonsieve_case(text: *const u8, length: usize) -> CaseOutcome;
 }
 
@@ -106,6 +130,33 @@ pub fn abatement(call: &[u64; 4]) -> (u64, u64) {
     // SAFETY: numbers only.
     let figure = unsafe { canyonsieve_abatement(pension, earned, previous_pay, new_pay) };
     (figure.refusal, figure.number)
+}
+
+/// The engine's call of a change of employer.
+pub fn change_of_employer(call: &[u64; 15]) -> (u64, (u64, u64)) {
+    let [pay4, pay3, pay2, pay1, allowance3, allowance2, allowance1, rest @ ..] = *call;
+    let [controls, days, factor, old_pay, old_days, new_pay, new_days, price_increase] = rest;
+    // SAFETY: numbers only.
+    let given = unsafe {
+        canyonsieve_change_of_employer(
+            pay4,
+            pay3,
+            pay2,
+            pay1,
+            allowance3,
+            allowance2,
+            allowance1,
+            controls,
+            days,
+            factor,
+            old_pay,
+            old_days,
+            new_pay,
+            new_days,
+            price_increase,
+        )
+    };
+    (given.refusal, (given.old_charge, given.new_charge))
 }
 
 /// The engine's case call.

@@ -1,9 +1,10 @@
-//! A second working of pension cases, written from document 01 alone.
+//! A second working of pension cases, written from document 01 and the landed requests of document
+//! 02: 2.1.
 //!
 //! It shares nothing with the engine and goes another way wherever there is one: posts are sorted
 //! by rate and filled in turn, the aggregate is one exact sum of fractions in wide numbers, months
-//! are counted one by one on a calendar of counted days, and a text is cut into owned lines before
-//! any of them is read.
+//! are counted one by one on a calendar of counted days, pays are annualised by whole pence a day, and
+//! a text is cut into owned lines before any of them is read.
 //!
 //! Its programs: `second` prints the line of a text, as the case program does; `scripts` does the
 //! scripts of the engine's test programs; `rivals` tries rival workings against the engine's amounts;
@@ -20,6 +21,7 @@
 pub mod benefits;
 pub mod calendar;
 pub mod cases;
+pub mod employers;
 pub mod engine;
 pub mod frames;
 pub mod mistakes;
@@ -31,6 +33,7 @@ pub mod wide;
 pub use benefits::{abatement, charge};
 pub use calendar::months_early;
 pub use cases::{case, printed, Outcome};
+pub use employers::change_of_employer;
 pub use posts::{posts, records};
 
 /// The largest pay or pot in pence.

@@ -25,6 +25,7 @@ const PAIRS: &[Pair] = &[
     ("dates", "months", dates),
     ("charge", "pence", charge),
     ("abatement", "pence", abatement),
+    ("change", "charges", change),
 ];
 
 /// A figure marked as wrong, which is not run and may stand between the blocks of a pair.
@@ -119,6 +120,18 @@ fn abatement(lines: &[String]) -> Result<Answers, String> {
     Ok(Answers {
         engine: pence(engine::abatement(&call)),
         second: pence(second::abatement(&call)),
+    })
+}
+
+fn charges((refusal, (old, new)): (u64, (u64, u64))) -> Vec<String> {
+    vec![format!("refusal {refusal}, {old} and {new} pence")]
+}
+
+fn change(lines: &[String]) -> Result<Answers, String> {
+    let call = numbers::<15>(lines)?;
+    Ok(Answers {
+        engine: charges(engine::change_of_employer(&call)),
+        second: charges(second::change_of_employer(&call)),
     })
 }
 

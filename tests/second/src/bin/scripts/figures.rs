@@ -1,12 +1,13 @@
 //! The script of `figures`, a call for each line:
 //! `P` and `R LABEL|PLACES H W P H W P`, posts in bytes and as records; `B LABEL|PLACES BYTES`, bytes;
 //! `D LABEL|` birth, retirement, pension age; `C LABEL|` the ten numbers of an 04; `A LABEL|` pension,
-//! earned pension, previous pay, new pay.
+//! earned pension, previous pay, new pay; `E LABEL|` the ten numbers of an 04, old pay and days, new
+//! pay and days, price increase.
 
 use crate::words::{bytes, command, numbers};
 use second::posts::{Post, MOST_POSTS};
 use second::samples::writing::post_records;
-use second::{abatement, charge, months_early, posts, records};
+use second::{abatement, change_of_employer, charge, months_early, posts, records};
 
 /// The places that there are, of which a command lends the first, and what stands in each.
 const PLACES: usize = 18;
@@ -22,6 +23,7 @@ pub fn line(line: &str) -> Option<String> {
         "D" => dates_given(&words)?,
         "C" => charge_given(&words)?,
         "A" => abatement_given(&words)?,
+        "E" => change_given(&words)?,
         _ => return None,
     };
     Some(format!("{label}: {given}\n"))
@@ -101,4 +103,9 @@ fn charge_given(words: &[&str]) -> Option<String> {
 
 fn abatement_given(words: &[&str]) -> Option<String> {
     Some(pence(abatement(&numbers(words)?.try_into().ok()?)))
+}
+
+fn change_given(words: &[&str]) -> Option<String> {
+    let (refusal, (old, new)) = change_of_employer(&numbers(words)?.try_into().ok()?);
+    Some(format!("refusal {refusal}, {old} and {new} pence"))
 }

@@ -93,6 +93,7 @@ mod tests {
             "P x|1 65536 1 1",
             "R x|1 1 1 4294967296",
             "B x|1",
+            "E x|0 0 0 0 0 0 0 0 0 1 0 1 0 1",
         ];
         assert_unknown("figures", known, &unknown);
     }
