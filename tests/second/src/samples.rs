@@ -3,4 +3,5 @@
 pub mod accepted;
 pub mod calls;
 pub mod damaged;
+pub mod employers;
 pub mod writing;

@@ -1,5 +1,6 @@
 //! Inputs of the calls apart: posts, charge, dates and abatement.
 
+use crate::benefits::FinalPay;
 use crate::calendar::{month_length, Date};
 use crate::posts::{Post, MOST_POSTS};
 use crate::random::Random;
@@ -51,7 +52,7 @@ pub struct CallCause<Input> {
     pub make: fn(&mut Random) -> Input,
 }
 
-const fn cause<Input>(
+pub(super) const fn cause<Input>(
     refusal: u64,
     words: &'static str,
     make: fn(&mut Random) -> Input,
@@ -207,7 +208,7 @@ fn seven_first(random: &mut Random) -> PostsCall {
 }
 
 /// A number past a limit: by one, by a power of two that a narrower number would lose, or any.
-fn past(random: &mut Random, limit: u64) -> u64 {
+pub(super) fn past(random: &mut Random, limit: u64) -> u64 {
     let small = random.between(1, limit);
     let narrow = (1u64 << random.pick(&[16, 32, 40, 48, 56, 63])) + small;
     let any = random.between(limit + 1, u64::MAX);
@@ -216,7 +217,7 @@ fn past(random: &mut Random, limit: u64) -> u64 {
 }
 
 /// Numbers of a call with some of them put beside a limit of theirs, within or past it.
-fn beside_limits<const COUNT: usize>(
+pub(super) fn beside_limits<const COUNT: usize>(
     random: &mut Random,
     mut call: [u64; COUNT],
     limits: &[(u64, u64); COUNT],
@@ -233,9 +234,26 @@ fn beside_limits<const COUNT: usize>(
 /// The ten numbers of a charge call: pays 4 to 1, allowances 3 to 1, controls, days, factor.
 pub type ChargeCall = [u64; 10];
 
-/// A charge call that is accepted.
-pub fn charge_call(random: &mut Random) -> ChargeCall {
-    let given = accepted::final_pay(random);
+/// The least and the largest of a pay, and of an allowance or price increase.
+pub(super) const PAYS: (u64, u64) = (0, LARGEST_PAY);
+pub(super) const ALLOWANCES: (u64, u64) = (0, 1_000);
+
+/// The least and the largest of each number of an 04.
+pub(super) const CHARGE_LIMITS: [(u64, u64); 10] = [
+    PAYS,
+    PAYS,
+    PAYS,
+    PAYS,
+    ALLOWANCES,
+    ALLOWANCES,
+    ALLOWANCES,
+    (0, 7),
+    (0, 16_425),
+    (1, 10_000),
+];
+
+/// The ten numbers of an 04.
+pub(super) fn numbers_of(given: &FinalPay) -> ChargeCall {
     let mut call = [0; 10];
     call[..4].copy_from_slice(&given.pays);
     call[4..7].copy_from_slice(&given.allowances);
@@ -243,24 +261,15 @@ pub fn charge_call(random: &mut Random) -> ChargeCall {
     call
 }
 
+/// A charge call that is accepted.
+pub fn charge_call(random: &mut Random) -> ChargeCall {
+    numbers_of(&accepted::final_pay(random))
+}
+
 /// A charge call with numbers at their limits.
 pub fn any_charge_call(random: &mut Random) -> ChargeCall {
-    const PAYS: (u64, u64) = (0, LARGEST_PAY);
-    const ALLOWANCES: (u64, u64) = (0, 1_000);
     let call = charge_call(random);
-    let limits = [
-        PAYS,
-        PAYS,
-        PAYS,
-        PAYS,
-        ALLOWANCES,
-        ALLOWANCES,
-        ALLOWANCES,
-        (0, 7),
-        (0, 16_425),
-        (1, 10_000),
-    ];
-    beside_limits(random, call, &limits)
+    beside_limits(random, call, &CHARGE_LIMITS)
 }
 
 pub const CHARGE_CAUSES: &[CallCause<ChargeCall>] = &[

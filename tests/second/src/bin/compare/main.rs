@@ -2,11 +2,13 @@
 //! ends the run with the input in hexadecimal; a class with too few inputs fails it too.
 
 mod classes;
+mod employers;
 mod tally;
 
 use classes::{
     Test, ABATEMENT_CLASSES, CASE_CLASSES, CHARGE_CLASSES, DATES_CLASSES, POSTS_CLASSES,
 };
+use employers::CHANGE_CLASSES;
 use second::cases::read;
 use second::engine;
 use second::random::Random;
@@ -17,6 +19,7 @@ use second::samples::calls::{
 };
 use second::samples::damaged::mixed::{mixed_frames, one_byte_changed, random_damage};
 use second::samples::damaged::CAUSES;
+use second::samples::employers::{any_change_call, change_call, CHANGE_CAUSES};
 use second::samples::writing::case_text;
 use second::samples::{accepted, writing};
 use std::fmt::Debug;
@@ -44,6 +47,7 @@ const POSTS: &str = "posts";
 const CHARGE: &str = "charge";
 const DATES: &str = "dates";
 const ABATEMENT: &str = "abatement";
+const CHANGE: &str = "change of employer";
 
 /// Guard words on either side of the lent places.
 const GUARDS: usize = 4;
@@ -306,6 +310,16 @@ const ABATEMENT_CALL: NumbersCall<[u64; 4], u64> = NumbersCall {
     classes: ABATEMENT_CLASSES,
 };
 
+const CHANGE_CALL: NumbersCall<[u64; 15], (u64, u64)> = NumbersCall {
+    name: CHANGE,
+    draw: change_call,
+    draw_any: any_change_call,
+    engine: engine::change_of_employer,
+    second: second::change_of_employer,
+    causes: CHANGE_CAUSES,
+    classes: CHANGE_CLASSES,
+};
+
 /// Names the classes of inputs drawn without a cause, so that they are printed in order.
 fn expect_refusals(tally: &mut Tally) {
     for words in [
@@ -342,6 +356,7 @@ fn expected() -> Tally {
     CHARGE_CALL.expect(&mut tally);
     DATES_CALL.expect(&mut tally);
     ABATEMENT_CALL.expect(&mut tally);
+    CHANGE_CALL.expect(&mut tally);
     expect_refusals(&mut tally);
     tally
 }
@@ -359,6 +374,7 @@ fn main() {
     ABATEMENT_CALL.compare_all(&mut tally, &mut random);
     compare_cases(&mut tally, &mut random);
     compare_damaged(&mut tally, &mut random);
+    CHANGE_CALL.compare_all(&mut tally, &mut random);
     if !tally.reached() {
         println!("some class has too few inputs");
         exit(1);
