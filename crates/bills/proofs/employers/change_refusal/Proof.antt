@@ -1,13 +1,24 @@
 -- `bills::change_refusal` meets its contract: 9, then 26.
-use mathlib.Core.Path.{sym, _∙_, ap}
+use mathlib.Core.Path.{_≡_, sym, _∙_, ap}
+use mathlib.Core.Bool.{true}
 use borrow.Author.Tests.{not-true, not-false, eq-eqb, ne-eqb}
 use borrow.Author.Needs.{needs}
 use Rattle.measures.proofs.Tests.{tests}
 use Rattle.benefits.specs.declared.BestPay.{BestPay}
-use Rattle.benefits.specs.Steps.{bestPay}
-use Rattle.bills.specs.Employers.{changeRefusal}
+use Rattle.benefits.specs.Steps.{bestPay, finalPayRefusal}
+use Rattle.bills.specs.Employers.{partsWithin, daysWithin, changeRefusal}
 use Rattle.bills.proofs.employers.change_refusal.Statement.{statement}
 use Rattle.bills.proofs.employers.change_refusal.Tie as tie
+
+-- what each test says once it has passed
+fields-stand : (c : tie.Else1) → finalPayRefusal (c .before .before .args .f) ≡ 0
+fields-stand c = sym (c .before .final-pay-refusal .ensures) ∙ c .if1 .left
+
+parts-stand : (c : tie.Else2) → partsWithin (c .before .before .before .before .args .c) ≡ true
+parts-stand c = sym (c .before .parts-within .ensures) ∙ not-false (c .before .parts-within .result) (c .if2 .left)
+
+days-stand : (c : tie.Else3) → daysWithin (c .before .before .before .before .before .before .args .c) ≡ true
+days-stand c = sym (c .before .days-within .ensures) ∙ not-false (c .before .days-within .result) (c .if3 .left)
 
 final-pay-refusal-requires : tie.Need-final-pay-refusal-requires
 final-pay-refusal-requires c κs = search needs
@@ -23,8 +34,7 @@ returns-2 : tie.Need-returns-2
 unfolding changeRefusal
 returns-2 c =
     let p = c .before in
-    let fields = sym (p .before .before .final-pay-refusal .ensures) ∙ p .before .if1 .left in
-    search (tests, fields, sym (p .parts-within .ensures) ∙ not-true (p .parts-within .result) (c .if2 .taken))
+    search (tests, fields-stand (p .before), sym (p .parts-within .ensures) ∙ not-true (p .parts-within .result) (c .if2 .taken))
 
 days-within-requires : tie.Need-days-within-requires
 days-within-requires c κs = search needs
@@ -33,10 +43,7 @@ returns-3 : tie.Need-returns-3
 unfolding changeRefusal
 returns-3 c =
     let d = c .before in
-    let p = d .before .before in
-    let fields = sym (p .before .before .final-pay-refusal .ensures) ∙ p .before .if1 .left in
-    let within = sym (p .parts-within .ensures) ∙ not-false (p .parts-within .result) (d .before .if2 .left) in
-    search (tests, fields, within, sym (d .days-within .ensures) ∙ not-true (d .days-within .result) (c .if3 .taken))
+    search (tests, fields-stand (d .before .before .before), parts-stand (d .before), sym (d .days-within .ensures) ∙ not-true (d .days-within .result) (c .if3 .taken))
 
 final-pay-requires : tie.Need-final-pay-requires
 final-pay-requires c κs = search needs
@@ -45,23 +52,15 @@ returns-4 : tie.Need-returns-4
 unfolding changeRefusal bestPay
 returns-4 c =
     let b = c .before .before in
-    let d = b .before .before in
-    let p = d .before .before in
-    let fields = sym (p .before .before .final-pay-refusal .ensures) ∙ p .before .if1 .left in
-    let within = sym (p .parts-within .ensures) ∙ not-false (p .parts-within .result) (d .before .if2 .left) in
-    let days = sym (d .days-within .ensures) ∙ not-false (d .days-within .result) (b .before .if3 .left) in
-    search (tests, fields, within, days, ne-eqb _ 1 (λ e. c .if4 .taken (ap (λ (b : BestPay). b .year) (b .final-pay .ensures) ∙ e)))
+    let d = b .before in
+    search (tests, fields-stand (d .before .before .before .before), parts-stand (d .before .before), days-stand d, ne-eqb _ 1 (λ e. c .if4 .taken (ap (λ (b : BestPay). b .year) (b .final-pay .ensures) ∙ e)))
 
 returns-5 : tie.Need-returns-5
 unfolding changeRefusal bestPay
 returns-5 c =
     let b = c .before .before in
-    let d = b .before .before in
-    let p = d .before .before in
-    let fields = sym (p .before .before .final-pay-refusal .ensures) ∙ p .before .if1 .left in
-    let within = sym (p .parts-within .ensures) ∙ not-false (p .parts-within .result) (d .before .if2 .left) in
-    let days = sym (d .days-within .ensures) ∙ not-false (d .days-within .result) (b .before .if3 .left) in
-    search (tests, fields, within, days, eq-eqb _ 1 (sym (ap (λ (b : BestPay). b .year) (b .final-pay .ensures)) ∙ c .if4 .left))
+    let d = b .before in
+    search (tests, fields-stand (d .before .before .before .before), parts-stand (d .before .before), days-stand d, eq-eqb _ 1 (sym (ap (λ (b : BestPay). b .year) (b .final-pay .ensures)) ∙ c .if4 .left))
 
 pub change-refusal-spec : {M : Type 1} → statement M
 change-refusal-spec =
