@@ -6,7 +6,7 @@ use Rattle.bills.proofs.employers.annualised.Statement.{statement}
 use Rattle.bills.proofs.employers.annualised.Tie as tie
 
 scaled-requires : tie.Need-scaled-requires
-scaled-requires c κs = (c .pre .1, omega (arith, c .pre .0))
+scaled-requires c κs = omega (arith, c .pre)
 
 returns : tie.Need-returns
 unfolding annualised
