@@ -124,7 +124,7 @@ CANYONSIEVE_CHECKED static inline const char *canyonsieve_refusal_words(uint64_t
     case CANYONSIEVE_SECOND_WHOLE_TIME:
         return "a second whole-time post";
     case CANYONSIEVE_FINAL_PAY:
-        return "final pay out of range";
+        return "final pay out of range, or in a change of employer a pay or the price increase";
     case CANYONSIEVE_FACTOR:
         return "a factor out of range or not after the previous one";
     case CANYONSIEVE_DEBIT:

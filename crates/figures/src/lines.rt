@@ -2,7 +2,6 @@
 use measures::Answer;
 use measures::AnswerOfTwo;
 use measures::Pence;
-use measures::TwoAmounts;
 ghost use mathlib.Core.Path.{_≡_};
 ghost use lib.IntN.{natAbs};
 
@@ -34,10 +33,8 @@ pub fn answer(label: &[u8], given: Answer) {
 }
 
 // Writes a label, a refusal and two amounts.
-fn two_pence(label: &[u8], refusal: u64, amounts: TwoAmounts) {
+fn two_pence(label: &[u8], refusal: u64, one: Pence, other: Pence) {
     start(label, refusal);
-    let one = amounts.one;
-    let other = amounts.other;
     number(b", ", one.0);
     number(b" and ", other.0);
     io::write_all(1, b" pence");
@@ -46,15 +43,8 @@ fn two_pence(label: &[u8], refusal: u64, amounts: TwoAmounts) {
 // Writes a label and an answer of two amounts, both 0 when refused.
 pub fn answer_of_two(label: &[u8], given: AnswerOfTwo) {
     match given {
-        AnswerOfTwo::Amounts(amounts) => two_pence(label, 0, amounts),
-        AnswerOfTwo::Refused(refusal) => two_pence(
-            label,
-            refusal,
-            TwoAmounts {
-                one: Pence(0),
-                other: Pence(0),
-            },
-        ),
+        AnswerOfTwo::Amounts(amounts) => two_pence(label, 0, amounts.one, amounts.other),
+        AnswerOfTwo::Refused(refusal) => two_pence(label, refusal, Pence(0), Pence(0)),
     }
 }
 
