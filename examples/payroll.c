@@ -1,6 +1,6 @@
 /* A payroll program: the pensionable pay of posts with the hours that count and those left out, a final pay charge, the
- * charges of two employers, and whole cases. Pensions and pays are amounts for a year; a lump sum and a charge are paid
- * once. */
+ * charges of two employers, and whole cases. Pensions and pays are amounts for a year, but the pays with each of two
+ * employers for their days; a lump sum and a charge are paid once. */
 #include <canyonsieve.h>
 
 #include <inttypes.h>

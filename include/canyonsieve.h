@@ -5,7 +5,7 @@
  *
  * Amounts of money are in pence, contracts in minutes a week, spans in months. A pension, a pay and an abatement are
  * amounts for a YEAR: what is paid every month is a share of them, which the caller works out. A lump sum and a charge
- * are paid ONCE.
+ * are paid ONCE. Only the two pays with each employer in canyonsieve_change_of_employer are for their DAYS.
  *
  * Each call takes any numbers whatever: what the rules do not take is refused. Each gives a refusal, 0 for none, and
  * numbers beside it, all 0 when refused: look at the refusal first, since 0 is a legal amount. Results are returned by
@@ -37,7 +37,7 @@ extern "C" {
 #define CANYONSIEVE_MAX_POSTS 16         /* posts of a year */
 #define CANYONSIEVE_MAX_YEARS 50         /* years of a case */
 #define CANYONSIEVE_MAX_TEXT 32768       /* bytes of a text */
-#define CANYONSIEVE_MAX_PAY 1000000000   /* pence of a yearly pay, and of a Scheme Pays pot */
+#define CANYONSIEVE_MAX_PAY 1000000000   /* pence of a pay, and of a Scheme Pays pot */
 #define CANYONSIEVE_BYTES_OF_POST 8      /* bytes of a post in the posts call */
 
 /* A result that is not looked at may be a refusal that is paid. */
@@ -217,12 +217,13 @@ CANYONSIEVE_CHECKED struct canyonsieve_figure canyonsieve_charge(uint64_t pay4, 
  * the year before the last.
  *
  * pay4 to factor: the ten numbers of canyonsieve_charge. pay2 is the pay of the whole of year 2; it is not held against
- * the two pays that follow. old_pay, old_days: the pay in pence with the old employer in year 2, and its days; new_pay,
- * new_days: the same with the new employer. Both pays are brought to a year of 365 days. price_increase: the rise of
- * prices in the final year, in thousandths, by which the old employer's excess is raised.
+ * the two pays that follow. old_pay, old_days: what the old employer paid in year 2, in pence, and for how many days;
+ * new_pay, new_days: the same of the new employer. Each is the pay of those days alone, NOT of a year: the call itself
+ * brings it to a year of 365 days. price_increase: the rise of prices in the final year, in thousandths, by which the
+ * old employer's excess is raised.
  *
  * The old employer's charge is 0 where year 2 is not controlled, the new employer's where year 1 is not. What
- * canyonsieve_charge gives for the ten numbers is the bill of a single employer; it is neither charge nor their sum.
+ * canyonsieve_charge gives for the ten numbers is the bill of a single employer; these two are not parts of it.
  *
  * Refusals, tried in this order: 9, one of the ten numbers is out of range, a pay with an employer is above
  * 1,000,000,000 pence, or the price increase is above 1,000; 26, an employer has no days, both together have more than
