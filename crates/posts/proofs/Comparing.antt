@@ -1,14 +1,22 @@
--- From the tests of two products to the rank of their posts.
+-- From the comparison of two products to the rank of their posts.
 use mathlib.Core.Path.{_≡_, refl, sym}
 use mathlib.Core.Bool.{Bool, true, false, cond, _||_, _&&_}
-use Prim.Native.Nat.{ℕ, _≤_, _<_}
+use Prim.Native.Nat.{ℕ, _*_, _≤_, _<_}
 use native.Mathlib.Omega.{arith}
-use lib.Dec.{leb, ltb, eqb}
-use borrow.Author.Tests.{ltb-true, ltb-false, lt-ltb, le-ltb, le-leb, lt-leb, eqb-true, eqb-false}
+use lib.Dec.{leb, ltb}
+use borrow.Author.Tests.{ltb-true, ltb-false, lt-ltb, le-ltb, le-leb, lt-leb}
+use Rattle.posts.specs.declared.Comparison.{Comparison}
+use Rattle.posts.specs.declared.Post.{Post}
+use Rattle.posts.specs.Posts.{h, p}
+use Rattle.posts.specs.Rates.{comparison, isHigher, isEqual, rankedBefore}
 
 -- the rank by the numbers a = p x × h y and b = p y × h x, where y is the earlier or not
 abbrev ranked : ℕ → ℕ → Bool → Bool
 ranked a b e = cond e (leb a b) (ltb a b)
+
+-- the answer, higher, lower or equal, by its two tests
+abbrev answer : Bool → Bool → Comparison
+answer s t = cond s Comparison.Higher (cond t Comparison.Lower Comparison.Equal)
 
 module _ (a b : ℕ) where
   above : a < b → (e : Bool) → true ≡ ranked a b e
@@ -24,13 +32,15 @@ module _ (a b : ℕ) where
   below g false = sym (le-ltb a b (omega arith))
 
   -- the rank by one sum of tests, without a branch
-  pub flat : (e : Bool) → (ltb a b || (e && eqb a b)) ≡ ranked a b e
-  flat e = go (ltb a b) (eqb a b) refl refl
+  flat : (e : Bool) → (isHigher (answer (ltb a b) (ltb b a)) || (e && isEqual (answer (ltb a b) (ltb b a)))) ≡ ranked a b e
+  flat e = go (ltb a b) (ltb b a) refl refl
     where
-      go : (s t : Bool) → ltb a b ≡ s → eqb a b ≡ t → (s || (e && t)) ≡ ranked a b e
+      go : (s t : Bool) → ltb a b ≡ s → ltb b a ≡ t → (isHigher (answer s t) || (e && isEqual (answer s t))) ≡ ranked a b e
       go true t q r = above (ltb-true a b q) e
-      go false true q r = level (eqb-true a b r) e
-      go false false q r = let x = ltb-false a b q in below (unequal (eqb-false a b r) x) e
-        where
-          unequal : (a ≡ b → ⊥) → b ≤ a → b < a
-          unequal n g = omega arith
+      go false true q r = below (ltb-true b a r) e
+      go false false q r = level (omega (arith, ltb-false a b q, ltb-false b a r)) e
+
+-- whether y goes before x by its comparison with x
+pub ranks : (x y : Post) (e : Bool) → (isHigher (comparison y x) || (e && isEqual (comparison y x))) ≡ rankedBefore x e y
+unfolding comparison
+ranks x y e = flat (p x * h y) (p y * h x) e

@@ -4,6 +4,7 @@ pub mod Optimum
 pub mod Ranking
 pub mod Aggregate
 pub mod Order
+pub mod Pays
 pub mod Comparing
 pub mod Standing
 pub mod Turns

@@ -2,6 +2,7 @@
 use Prim.Native.Nat.{ℕ, zero, suc, _+_}
 use mathlib.Core.Bool.{Bool, true, false, cond}
 use mathlib.Core.List.{List, [], _∷_}
+use lib.Dec.{ltb}
 use Rattle.posts.specs.declared.Post.{Post}
 use Rattle.posts.specs.declared.Comparison.{Comparison}
 use Rattle.posts.specs.Division.{Claim, higher, noLower}
@@ -11,12 +12,27 @@ use Rattle.posts.specs.Posts.{h, claim}
 abbrev pub byRate : Post → Claim
 byRate x = claim 0 x
 
--- the rate of x is higher than, lower than or equal to that of y
+-- "higher, lower or equal": one number beside another
+unfoldable pub ordered : ℕ → ℕ → Comparison
+ordered a b = cond (ltb b a) Comparison.Higher (cond (ltb a b) Comparison.Lower Comparison.Equal)
+
+-- the rate of x is higher than, lower than or equal to that of y, as "the products" are: the pay of x times the contracted minutes of y, and the pay of y times those of x
 unfoldable pub comparison : Post → Post → Comparison
 comparison x y =
     cond (higher (byRate y) (byRate x)) Comparison.Higher
     (cond (higher (byRate x) (byRate y)) Comparison.Lower
     Comparison.Equal)
+
+-- whether an answer is "higher", and whether it is "equal"
+abbrev pub isHigher : Comparison → Bool
+isHigher Comparison.Higher = true
+isHigher Comparison.Lower = false
+isHigher Comparison.Equal = false
+
+abbrev pub isEqual : Comparison → Bool
+isEqual Comparison.Higher = false
+isEqual Comparison.Lower = false
+isEqual Comparison.Equal = true
 
 -- whether y goes before x: "of equal rates the post earlier in the list goes first"
 abbrev pub rankedBefore : Post → Bool → Post → Bool

@@ -9,6 +9,7 @@ mod year;
 
 pub use call::post_at;
 pub use call::posts_call;
+pub use rates::compare_pays;
 pub use rates::compare_rates;
 pub use reading::read_on;
 pub use reading::reading_begun;
@@ -33,7 +34,7 @@ pub struct Post {
     pub pay: Pence,
 }
 
-// How one rate of pay compares with another.
+// How one rate of pay compares with another, or one pay.
 pub enum Comparison {
     Higher,
     Lower,
