@@ -11,7 +11,7 @@ mod twin;
 use second::random::Random;
 use std::io;
 use std::process::exit;
-use texts::SIZES;
+use texts::{KINDS, SIZES};
 
 const SEED: u64 = 0x0002_0150_0001_9950;
 
@@ -32,14 +32,17 @@ fn main() -> io::Result<()> {
     let stops = only_compares();
     let mut random = Random::new(SEED);
     let sizes = SIZES.map(|size| (size, texts::texts(&mut random, size)));
-    let lists = texts::lists(&mut random);
+    let kinds = KINDS.map(|kind| (kind, texts::lists(&mut random, kind)));
     for (_, texts) in &sizes {
         compare::compare_size(texts);
     }
-    compare::compare_lists(&lists);
+    for (_, lists) in &kinds {
+        compare::compare_lists(lists);
+    }
     let count: usize = sizes.iter().map(|(_, texts)| texts.len()).sum();
     println!("{count:>8}  texts to be timed, none refused");
-    println!("{:>8}  lists of posts to be timed", lists.len());
+    let count: usize = kinds.iter().map(|(_, lists)| lists.len()).sum();
+    println!("{count:>8}  lists of posts to be timed, none refused");
     compare::compare_all(&mut random)?;
     println!("no difference");
     if stops {
@@ -51,6 +54,8 @@ fn main() -> io::Result<()> {
     }
     let (size, texts) = &sizes[texts::ONE_YEAR];
     timing::time_one_text(*size, texts);
-    timing::time_lists(&lists);
+    for (kind, lists) in &kinds {
+        timing::time_lists(*kind, lists);
+    }
     Ok(())
 }

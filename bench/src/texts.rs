@@ -12,7 +12,10 @@ use std::collections::HashSet;
 /// The least number of inputs of one size. Small inputs are more, so that all together have at
 /// least so many bytes: a processor learns the branches of what it meets again and again.
 const LEAST_COUNT: usize = 256;
-const LEAST_BYTES: usize = 600_000;
+const LEAST_BYTES: usize = 6_000_000;
+
+/// The shortest whole-time week of a post, in minutes.
+const SHORTEST_WEEK: u64 = 1_800;
 
 /// What the cases of one size have.
 #[derive(Clone, Copy)]
@@ -52,6 +55,44 @@ const fn plain(years: u64, posts: u64) -> Size {
     }
 }
 
+/// How the contracted minutes of the posts of a list agree.
+#[derive(Clone, Copy)]
+pub enum Contracts {
+    /// Each drawn by itself.
+    Any,
+    /// One for all posts.
+    Equal,
+    /// Three posts in four have one, the others each their own.
+    MostlyEqual,
+    /// No two alike.
+    Different,
+}
+
+/// What the lists of one kind have.
+#[derive(Clone, Copy)]
+pub struct Kind {
+    pub posts: usize,
+    pub contracts: Contracts,
+}
+
+/// The kinds of lists that are compared and timed.
+pub const KINDS: [Kind; 10] = [
+    list(16, Contracts::Any),
+    list(4, Contracts::Equal),
+    list(4, Contracts::MostlyEqual),
+    list(4, Contracts::Different),
+    list(8, Contracts::Equal),
+    list(8, Contracts::MostlyEqual),
+    list(8, Contracts::Different),
+    list(16, Contracts::Equal),
+    list(16, Contracts::MostlyEqual),
+    list(16, Contracts::Different),
+];
+
+const fn list(posts: usize, contracts: Contracts) -> Kind {
+    Kind { posts, contracts }
+}
+
 /// Draws inputs until they are enough, each different from those before.
 fn enough(mut draw: impl FnMut() -> Vec<u8>) -> Vec<Vec<u8>> {
     let mut inputs = Vec::new();
@@ -72,15 +113,44 @@ pub fn texts(random: &mut Random, size: Size) -> Vec<Vec<u8>> {
     enough(|| case_text(&case(random, size)))
 }
 
-/// Lists of 16 posts as the posts call takes them.
-pub fn lists(random: &mut Random) -> Vec<Vec<u8>> {
-    enough(|| post_records(&posts(random, 16)))
+/// The lists of a kind, as the posts call takes them.
+pub fn lists(random: &mut Random, kind: Kind) -> Vec<Vec<u8>> {
+    enough(|| post_records(&posts_of(random, kind)))
+}
+
+/// Posts whose contracted minutes agree as the kind says.
+fn posts_of(random: &mut Random, kind: Kind) -> Vec<Post> {
+    let mut posts = posts(random, kind.posts as u64);
+    let others = match kind.contracts {
+        Contracts::Any => return posts,
+        Contracts::Equal => 0,
+        Contracts::MostlyEqual => kind.posts / 4,
+        Contracts::Different => kind.posts - 1,
+    };
+    let minutes = minutes(random, others + 1);
+    for (at, post) in posts.iter_mut().enumerate() {
+        post.contracted = minutes[at.min(others)];
+    }
+    random.shuffle(&mut posts);
+    posts
+}
+
+/// So many contracted minutes, no two alike, all below the shortest week.
+fn minutes(random: &mut Random, count: usize) -> Vec<u64> {
+    let mut minutes = Vec::new();
+    while minutes.len() < count {
+        let drawn = random.between(60, SHORTEST_WEEK - 1);
+        if !minutes.contains(&drawn) {
+            minutes.push(drawn);
+        }
+    }
+    minutes
 }
 
 /// Posts of varied weeks and rates, none of them whole-time.
 fn posts(random: &mut Random, count: u64) -> Vec<Post> {
     let mut post = || {
-        let any = random.between(1_800, 2_700);
+        let any = random.between(SHORTEST_WEEK, 2_700);
         let whole_time = random.pick(&[2_250, 2_250, 2_400, any]);
         Post {
             contracted: random.between(60, whole_time - 1),

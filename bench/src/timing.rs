@@ -1,6 +1,6 @@
 //! Rounds over all inputs of a size in turn, the library and the twin by turns.
 
-use crate::texts::Size;
+use crate::texts::{Contracts, Kind, Size};
 use crate::twin;
 use second::engine;
 use std::hint::black_box;
@@ -60,7 +60,7 @@ fn in_thousands(time: f64) -> String {
 /// A row of the table.
 fn print_row(words: &str, inputs: &[Vec<u8>], (library, twin): (Times, Times)) {
     println!(
-        "| {words:<16} | {:>6} | {:>6} | {:>14} | {:>14} | {:>11} | {:>11} | {:>5.2} | {:>7.2} |",
+        "| {words:<29} | {:>6} | {:>6} | {:>14} | {:>14} | {:>11} | {:>11} | {:>5.2} | {:>7.2} |",
         inputs.len(),
         inputs[0].len(),
         in_thousands(library.least()),
@@ -77,7 +77,7 @@ pub fn print_head() {
         "nanoseconds for one input, least and median of {ROUNDS} rounds; ratios are library / twin"
     );
     println!(
-        "| {:<16} | Inputs |  Bytes | {:>14} | {:>14} | {:>11} | {:>11} | Least | Medians |",
+        "| {:<29} | Inputs |  Bytes | {:>14} | {:>14} | {:>11} | {:>11} | Least | Medians |",
         "Years × posts", "Library, least", "median", "Twin, least", "median"
     );
     println!("|---|---|---|---|---|---|---|---|---|");
@@ -97,13 +97,20 @@ pub fn time_one_text(size: Size, texts: &[Vec<u8>]) {
     print_row(&words, &copies, rounds(&copies, engine::case, twin::case));
 }
 
-/// Times the posts call on lists of 16 posts.
-pub fn time_lists(lists: &[Vec<u8>]) {
+/// Times the posts call on the lists of a kind.
+pub fn time_lists(kind: Kind, lists: &[Vec<u8>]) {
+    let agree = match kind.contracts {
+        Contracts::Any => "",
+        Contracts::Equal => ", all h equal",
+        Contracts::MostlyEqual => ", most h equal",
+        Contracts::Different => ", no h equal",
+    };
+    let words = format!("posts call, {}{agree}", kind.posts);
     let (mut places, mut other_places) = ([0; 16], [0; 16]);
     let times = rounds(
         lists,
         |list| engine::posts(list, black_box(&mut places)),
         |list| twin::posts(list, black_box(&mut other_places)),
     );
-    print_row("posts call, 16", lists, times);
+    print_row(&words, lists, times);
 }

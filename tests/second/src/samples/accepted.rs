@@ -47,6 +47,30 @@ fn posts_of_near_rates(random: &mut Random) -> Vec<Post> {
         .collect()
 }
 
+/// Posts most of which have one h, the others one near it or twice it. Most pays are near one rate,
+/// so that on equal h they are equal or a penny or two apart.
+fn posts_of_one_contract(random: &mut Random) -> Vec<Post> {
+    let any = random.between(2, 3_000);
+    let shared = random.pick(&[1_200, 1_500, 10_078, any]);
+    let pay = random.of_any_size(LARGEST_PAY / 4);
+    let count = random.between(3, MOST_POSTS as u64);
+    (0..count)
+        .map(|_| {
+            let twice = (2 * shared).min(10_079);
+            let other = random.pick(&[shared - 1, shared + 1, twice]);
+            let contracted = random.pick(&[shared, shared, shared, other]);
+            let spare = random.between(1, 600);
+            let any = random.of_any_size(LARGEST_PAY);
+            let near = pay * contracted / shared + random.below(3);
+            Post {
+                contracted,
+                whole_time: (contracted + spare).min(10_080),
+                pay: random.pick(&[near, near, near, any]),
+            }
+        })
+        .collect()
+}
+
 /// Posts of few minutes and pence, where halves are common.
 pub fn small_posts(random: &mut Random, most: u64, most_minutes: u64, most_pay: u64) -> Vec<Post> {
     let count = random.between(1, most);
@@ -90,7 +114,7 @@ fn with_whole_time_post(random: &mut Random, mut posts: Vec<Post>) -> Vec<Post> 
 
 /// The posts of a year.
 pub fn post_list(random: &mut Random) -> Vec<Post> {
-    let posts = match random.below(12) {
+    let posts = match random.below(14) {
         0 => return Vec::new(),
         1..=4 => {
             let count = random.between(1, 4);
@@ -99,6 +123,7 @@ pub fn post_list(random: &mut Random) -> Vec<Post> {
         5..=7 => posts_of_near_rates(random),
         8..=9 => small_posts(random, 4, 6, 400),
         10 => posts_at_ends(random),
+        11..=12 => posts_of_one_contract(random),
         _ => {
             let count = random.between(8, MOST_POSTS as u64);
             (0..count).map(|_| part_time_post(random)).collect()

@@ -33,6 +33,40 @@ fn cut_decides_between_equals(posts: &[Post]) -> bool {
         })
 }
 
+/// How many posts have the h of this one.
+fn sharing(posts: &[Post], one: &Post) -> usize {
+    let same = |other: &&Post| other.contracted == one.contracted;
+    posts.iter().filter(same).count()
+}
+
+/// Whether there are three posts or more, and more than half of them have one h.
+fn mostly_of_one_contract(posts: &[Post]) -> bool {
+    posts.len() > 2
+        && posts
+            .iter()
+            .any(|one| 2 * sharing(posts, one) > posts.len())
+}
+
+/// Whether one post has all its parts and another, which passes the test with it, has not.
+fn cut_decides(posts: &[Post], test: fn(&Post, &Post) -> bool) -> bool {
+    let minutes = minutes_together(posts);
+    let parts = parts_of(posts);
+    let (full, cut): (Vec<usize>, Vec<usize>) =
+        (0..posts.len()).partition(|&at| parts[at] == posts[at].contracted * minutes);
+    let passes = |&one: &usize| cut.iter().any(|&other| test(&posts[one], &posts[other]));
+    is_cut(posts) && full.iter().any(passes)
+}
+
+fn of_one_contract(one: &Post, other: &Post) -> bool {
+    one.contracted == other.contracted
+}
+
+/// Whether besides most posts having one h, of two with the same h one has all its parts and the
+/// other not.
+fn cut_on_one_contract(posts: &[Post]) -> bool {
+    mostly_of_one_contract(posts) && cut_decides(posts, of_one_contract)
+}
+
 /// Whether a whole-time post has more parts than all posts together may have otherwise.
 fn passes_week(posts: &[Post]) -> bool {
     let minutes = minutes_together(posts);
@@ -56,6 +90,22 @@ pub const POSTS_CLASSES: &[Test<Vec<Post>>] = &[
     ("equal rates", 2_000, |posts| has_equal_rates(posts)),
     ("equal rates of which one is cut", 1_000, |posts| {
         cut_decides_between_equals(posts)
+    }),
+    ("most posts of one h", 2_000, |posts| {
+        mostly_of_one_contract(posts)
+    }),
+    (
+        "most posts of one h, of two alike one cut",
+        1_000,
+        |posts| cut_on_one_contract(posts),
+    ),
+    ("equal pays on one h of which one is cut", 500, |posts| {
+        cut_decides(posts, |one, other| {
+            of_one_contract(one, other) && one.pay == other.pay
+        })
+    }),
+    ("a higher pay of another h cut", 1_000, |posts| {
+        cut_decides(posts, |one, other| one.pay < other.pay)
     }),
     ("a whole-time post", 2_000, |posts| {
         posts.iter().any(Post::is_whole_time)
@@ -159,6 +209,14 @@ pub const CASE_CLASSES: &[Test<Case>] = &[
     ("equal rates of which one is cut", 1_000, |case| {
         any_year(case, cut_decides_between_equals)
     }),
+    ("a year with most posts of one h", 1_000, |case| {
+        any_year(case, mostly_of_one_contract)
+    }),
+    (
+        "a year with most posts of one h, of two alike one cut",
+        1_000,
+        |case| any_year(case, cut_on_one_contract),
+    ),
     ("a whole-time post past the weighted week", 1_000, |case| {
         any_year(case, passes_week)
     }),
