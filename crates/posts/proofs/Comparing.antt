@@ -5,18 +5,14 @@ use Prim.Native.Nat.{ℕ, _*_, _≤_, _<_}
 use native.Mathlib.Omega.{arith}
 use lib.Dec.{leb, ltb}
 use borrow.Author.Tests.{ltb-true, ltb-false, lt-ltb, le-ltb, le-leb, lt-leb}
-use Rattle.posts.specs.declared.Comparison.{Comparison}
 use Rattle.posts.specs.declared.Post.{Post}
 use Rattle.posts.specs.Posts.{h, p}
-use Rattle.posts.specs.Rates.{comparison, isHigher, isEqual, rankedBefore}
+use Rattle.posts.specs.Rates.{ordered, comparison, isHigher, isEqual, rankedBefore}
+use Rattle.posts.proofs.Pays.{ordered-higher, ordered-lower, ordered-equal, by-products}
 
 -- the rank by the numbers a = p x × h y and b = p y × h x, where y is the earlier or not
 abbrev ranked : ℕ → ℕ → Bool → Bool
 ranked a b e = cond e (leb a b) (ltb a b)
-
--- the answer, higher, lower or equal, by its two tests
-abbrev answer : Bool → Bool → Comparison
-answer s t = cond s Comparison.Higher (cond t Comparison.Lower Comparison.Equal)
 
 module _ (a b : ℕ) where
   above : a < b → (e : Bool) → true ≡ ranked a b e
@@ -32,15 +28,17 @@ module _ (a b : ℕ) where
   below g false = sym (le-ltb a b (omega arith))
 
   -- the rank by one sum of tests, without a branch
-  flat : (e : Bool) → (isHigher (answer (ltb a b) (ltb b a)) || (e && isEqual (answer (ltb a b) (ltb b a)))) ≡ ranked a b e
+  flat : (e : Bool) → (isHigher (ordered b a) || (e && isEqual (ordered b a))) ≡ ranked a b e
   flat e = go (ltb a b) (ltb b a) refl refl
     where
-      go : (s t : Bool) → ltb a b ≡ s → ltb b a ≡ t → (isHigher (answer s t) || (e && isEqual (answer s t))) ≡ ranked a b e
-      go true t q r = above (ltb-true a b q) e
-      go false true q r = below (ltb-true b a r) e
-      go false false q r = level (omega (arith, ltb-false a b q, ltb-false b a r)) e
+      go : (s t : Bool) → ltb a b ≡ s → ltb b a ≡ t → (isHigher (ordered b a) || (e && isEqual (ordered b a))) ≡ ranked a b e
+      go true t q r = let k = ltb-true a b q in rw (← ordered-higher b a k) (above k e)
+      go false true q r = let k = ltb-true b a r in rw (← ordered-lower b a k) (below k e)
+      go false false q r =
+          let k = ltb-false a b q in
+          let l = ltb-false b a r in
+          rw (← ordered-equal b a k l) (level (omega arith) e)
 
 -- whether y goes before x by its comparison with x
 pub ranks : (x y : Post) (e : Bool) → (isHigher (comparison y x) || (e && isEqual (comparison y x))) ≡ rankedBefore x e y
-unfolding comparison
-ranks x y e = flat (p x * h y) (p y * h x) e
+ranks x y e = rw (← by-products y x refl refl) (flat (p x * h y) (p y * h x) e)

@@ -34,7 +34,7 @@ pub struct Post {
     pub pay: Pence,
 }
 
-// How one rate of pay compares with another, or one pay.
+// How one rate of pay, or one pay, compares with another.
 pub enum Comparison {
     Higher,
     Lower,
