@@ -5,37 +5,35 @@ use mathlib.Core.Path.{_≡_, refl, sym, _∙_, ap}
 use native.Mathlib.Omega.{arith}
 use lib.Dec.{eqb, ltb}
 use lib.IntN.{ℤ, pos, negℤ, _-ℤ_}
-use borrow.Author.Tests.{eqb-true, eqb-false, ltb-false, lt-ltb, le-ltb}
-use Rattle.measures.proofs.Tests.{clash}
+use borrow.Author.Tests.{eqb-true, eqb-false, ltb-true, ltb-false, lt-ltb, le-ltb}
 use Rattle.measures.proofs.Integers.{less, more}
 use Rattle.calendar.specs.declared.Date.{Date}
-use Rattle.calendar.specs.Dates.{isBefore, completedMonths, monthsEarly}
+use Rattle.calendar.specs.Dates.{completingDay, completedMonths, monthsEarly}
 use Rattle.calendar.specs.Ranges.{Accepted}
+use Rattle.calendar.proofs.MonthNumbers.{monthNumber, by-month-number}
+use Rattle.calendar.proofs.CompletingDay.{completing-lower}
 
--- the number of a date's month, counted from the start of year 0
-abbrev pub monthNumber : Date → ℕ
-monthNumber d = 12 * d .year + d .month
-
--- one fewer where the retirement day number is below the birth day number
+-- one fewer where the retirement day number is below the completing day
 abbrev pub oneFewer : Date → Date → ℕ
-oneFewer birth retirement = cond (ltb (retirement .day) (birth .day)) 1 0
+oneFewer birth retirement = cond (ltb (retirement .day) (completingDay birth retirement)) 1 0
 
 module _ (birth retirement : Date) (h : Accepted birth retirement) where
   -- retirement is no earlier than birth by the number of its month
   pub ordered : monthNumber birth + oneFewer birth retirement ≤ monthNumber retirement
-  unfolding isBefore
-  ordered = by _ refl _ refl _ refl (h .order)
+  ordered =
+      let born = h .born in
+      let retired = h .retired in
+      let by-numbers = by-month-number retirement birth (retired .month-from) (retired .month-to) (born .month-from) (born .month-to) in
+      by _ refl _ refl (sym by-numbers ∙ h .order)
     where
-      by : (t : Bool) → eqb (retirement .year) (birth .year) ≡ t → (u : Bool) → eqb (retirement .month) (birth .month) ≡ u
-          → (s : Bool) → ltb (retirement .day) (birth .day) ≡ s
-          → cond t (cond u s (ltb (retirement .month) (birth .month))) (ltb (retirement .year) (birth .year)) ≡ false
+      by : (t : Bool) → eqb (monthNumber retirement) (monthNumber birth) ≡ t
+          → (s : Bool) → ltb (retirement .day) (completingDay birth retirement) ≡ s
+          → cond t (ltb (retirement .day) (birth .day)) (ltb (monthNumber retirement) (monthNumber birth)) ≡ false
           → monthNumber birth + cond s 1 0 ≤ monthNumber retirement
-      by true e true f true g o = clash (cc)
-      by true e true f false g o = omega (arith, eqb-true)
-      by true e false f true g o = omega (arith, eqb-true, eqb-false, ltb-false)
-      by true e false f false g o = omega (arith, eqb-true, eqb-false, ltb-false)
-      by false e u f true g o = omega (arith, eqb-true, eqb-false, ltb-false)
-      by false e u f false g o = omega (arith, eqb-true, eqb-false, ltb-false)
+      by true e true f o = absurd (let never : ⊥ = omega (arith, ltb-true, ltb-false, completing-lower birth retirement .0) in never)
+      by true e false f o = omega (arith, eqb-true)
+      by false e true f o = omega (arith, eqb-false, ltb-false)
+      by false e false f o = omega (arith, ltb-false)
 
   -- the months completed, never below nought
   pub completed : completedMonths birth retirement ≡ pos (monthNumber retirement - monthNumber birth - oneFewer birth retirement)
@@ -43,15 +41,15 @@ module _ (birth retirement : Date) (h : Accepted birth retirement) where
   completed =
       ap (λ (z : ℤ). z -ℤ pos (oneFewer birth retirement)) (less _ _ (omega (arith, ordered))) ∙ less _ _ (omega (arith, ordered))
 
-  -- a retirement day number that is below the birth day number
-  pub ordered-short : retirement .day < birth .day → monthNumber birth + 1 ≤ monthNumber retirement
+  -- a retirement day number that is below the completing day
+  pub ordered-short : retirement .day < completingDay birth retirement → monthNumber birth + 1 ≤ monthNumber retirement
   ordered-short d = rw (lt-ltb _ _ d) at ordered
 
-  pub completed-short : retirement .day < birth .day → pos (monthNumber retirement - monthNumber birth - 1) ≡ completedMonths birth retirement
+  pub completed-short : retirement .day < completingDay birth retirement → pos (monthNumber retirement - monthNumber birth - 1) ≡ completedMonths birth retirement
   completed-short d = sym (rw (lt-ltb _ _ d) at completed)
 
   -- one that is not
-  pub completed-full : birth .day ≤ retirement .day → pos (monthNumber retirement - monthNumber birth) ≡ completedMonths birth retirement
+  pub completed-full : completingDay birth retirement ≤ retirement .day → pos (monthNumber retirement - monthNumber birth) ≡ completedMonths birth retirement
   completed-full d = sym ((rw (le-ltb _ _ d) at completed) ∙ ap pos (omega arith))
 
   -- 1 January 1900 to 31 December 2100 is the most

@@ -1,4 +1,4 @@
--- Document 01, "Months early", and what refusal 5 says of dates and pension age.
+-- Document 01, "Months early", with request 2.3, and what refusal 5 says of dates and pension age.
 use Prim.Native.Nat.{ℕ, _+_, _*_, _%_}
 use mathlib.Core.Bool.{Bool, _&&_, _||_, not, cond}
 use lib.Dec.{ltb, eqb}
@@ -12,16 +12,6 @@ use Rattle.calendar.specs.declared.DatesAnswer.{DatesAnswer}
 abbrev pub dateOf : ℕ → ℕ → ℕ → Date
 dateOf year month day = record { year = year; month = month; day = day }
 
--- Age, as document 01 defines it: "Age is completed months: 12 × years + months between the dates, one fewer if the retirement day number is below the birth day number."
-unfoldable pub completedMonths : Date → Date → ℤ
-completedMonths birth retirement =
-    pos (12 * retirement .year + retirement .month) -ℤ pos (12 * birth .year + birth .month)
-    -ℤ pos (cond (ltb (retirement .day) (birth .day)) 1 0)
-
--- Months early, as document 01 defines it: "Months early = 12 × pension age − age, which may be nought or negative"
-unfoldable pub monthsEarly : Date → Date → ℕ → ℤ
-monthsEarly birth retirement pensionAge = pos (12 * pensionAge) -ℤ completedMonths birth retirement
-
 -- "its Gregorian month": 4 divides a leap year, and where 100 does, 400 does too
 unfoldable pub isLeap : ℕ → Bool
 isLeap year = eqb (year % 4) 0 && (not (eqb (year % 100) 0) || eqb (year % 400) 0)
@@ -32,6 +22,24 @@ monthLength year month =
     cond (eqb month 4 || eqb month 6 || eqb month 9 || eqb month 11) 30
     (cond (eqb month 2) (cond (isLeap year) 29 28)
     (cond (within 1 12 month) 31 0))
+
+-- "the last day" of a date's month
+abbrev pub lastDay : Date → ℕ
+lastDay d = monthLength (d .year) (d .month)
+
+-- Request 2.3: "in a month too short for the birth day, the last day completes it". The month is the retirement's; where it has the birth day, that day completes it.
+unfoldable pub completingDay : Date → Date → ℕ
+completingDay birth retirement = cond (ltb (lastDay retirement) (birth .day)) (lastDay retirement) (birth .day)
+
+-- Age, as document 01 defines it: "Age is completed months: 12 × years + months between the dates, one fewer if the retirement day number is below" the completing day. Document 01 has "the birth day number" there; by request 2.3 its "day comparison gives way to this".
+unfoldable pub completedMonths : Date → Date → ℤ
+completedMonths birth retirement =
+    pos (12 * retirement .year + retirement .month) -ℤ pos (12 * birth .year + birth .month)
+    -ℤ pos (cond (ltb (retirement .day) (completingDay birth retirement)) 1 0)
+
+-- Months early, as document 01 defines it: "Months early = 12 × pension age − age, which may be nought or negative"
+unfoldable pub monthsEarly : Date → Date → ℕ → ℤ
+monthsEarly birth retirement pensionAge = pos (12 * pensionAge) -ℤ completedMonths birth retirement
 
 -- "year outside 1900 to 2100, month outside 1 to 12, a day that doesn't fit its Gregorian month"
 unfoldable pub dateStands : Date → Bool

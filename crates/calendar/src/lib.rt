@@ -3,7 +3,7 @@ use measures::Months;
 ghost use mathlib.Core.Path.{_≡_};
 ghost use Prim.Native.Nat.{_≤_};
 ghost use lib.IntN.{pos};
-ghost use Rattle.calendar.specs.Dates.{isLeap, monthLength, dateStands, isBefore, datesRefusal, completedMonths, monthsEarly, monthsOf, refusalGiven, monthsGiven, datesNumber};
+ghost use Rattle.calendar.specs.Dates.{isLeap, monthLength, dateStands, isBefore, datesRefusal, completingDay, completedMonths, monthsEarly, monthsOf, refusalGiven, monthsGiven, datesNumber};
 ghost use Rattle.calendar.specs.Ranges.{Bounded, AnswerBounded, Accepted};
 
 // A day of the calendar.
@@ -111,13 +111,24 @@ pub fn dates_refusal(birth: Date, retirement: Date, pension_age: u64) -> u64
     0
 }
 
+// The day that completes the month of retirement: the birth day, or the last day of a month too short for it.
+fn completing_day(birth: Date, retirement: Date) -> u64
+    ensures { λ r. ⌜ r ≡ completingDay birth retirement ⌝ }
+{
+    let last = month_length(retirement.year, retirement.month);
+    if last < birth.day {
+        return last;
+    }
+    birth.day
+}
+
 // The age at retirement, in completed months.
 pub fn completed_months(birth: Date, retirement: Date) -> Months
     requires { ⌜ Accepted birth retirement ⌝ }
     ensures { λ r. ⌜ pos (r .0) ≡ completedMonths birth retirement ⌝ }
 {
     let months = 12 * retirement.year + retirement.month - (12 * birth.year + birth.month);
-    if retirement.day < birth.day {
+    if retirement.day < completing_day(birth, retirement) {
         return Months(months - 1);
     }
     Months(months)

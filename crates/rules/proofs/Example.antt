@@ -5,7 +5,7 @@ use mathlib.Core.List.{List, [], _∷_}
 use Rattle.measures.specs.Rounding.{rounded}
 use Rattle.measures.specs.Tries.{tried, after}
 use Rattle.fields.specs.Fields.{oneAt, twoAt, fourAt}
-use Rattle.calendar.specs.Dates.{completedMonths, monthsEarly, isLeap, monthLength, dateStands, isBefore, datesRefusal}
+use Rattle.calendar.specs.Dates.{isLeap, monthLength, completingDay, completedMonths, monthsEarly, dateStands, isBefore, datesRefusal}
 use Rattle.posts.specs.Posts.{aggregate, aggregatePay}
 use Rattle.posts.specs.Refusals.{postStands, postRefusal}
 use Rattle.posts.specs.Call.{postAt}
@@ -25,5 +25,5 @@ printed =
     ∷ []
 
 pub printed-case : answerOf (kept (decodedAll printed)) ≡ Outcome.Worked (record { «net_2015» = record { 0 = 66667 }; «net_1995» = record { 0 = 0 }; «net_lump_sum» = record { 0 = 0 }; charge = record { 0 = 0 } })
-unfolding rounded tried after oneAt twoAt fourAt completedMonths monthsEarly isLeap monthLength dateStands isBefore datesRefusal aggregate aggregatePay postStands postRefusal postAt revalued accrued afterYear lumpDebit dateAt memberIn yearIn frameLength frameOf decoded memberRefusal yearStands lastOf beforePay hasSection inOrder isNext yearRefusal openPosts fieldsRefusal refusalOf addPost keep refusalOfDecoded keepDecoded kept early pensionFrom pensionOf ownPay pension1995 factorFor reducedIf gross2015 gross1995 grossLumpSum debitFor debitOf debit2015 debit1995 chargeOf payThere factorsThere debitsFit closingOf amountsOf workedUnless answerOf
+unfolding rounded tried after oneAt twoAt fourAt isLeap monthLength completingDay completedMonths monthsEarly dateStands isBefore datesRefusal aggregate aggregatePay postStands postRefusal postAt revalued accrued afterYear lumpDebit dateAt memberIn yearIn frameLength frameOf decoded memberRefusal yearStands lastOf beforePay hasSection inOrder isNext yearRefusal openPosts fieldsRefusal refusalOf addPost keep refusalOfDecoded keepDecoded kept early pensionFrom pensionOf ownPay pension1995 factorFor reducedIf gross2015 gross1995 grossLumpSum debitFor debitOf debit2015 debit1995 chargeOf payThere factorsThere debitsFit closingOf amountsOf workedUnless answerOf
 printed-case = refl

@@ -4,7 +4,7 @@ use mathlib.Core.Path.{_≡_, refl}
 use mathlib.Core.List.{List, [], _∷_}
 use Rattle.measures.specs.Rounding.{rounded}
 use Rattle.fields.specs.Fields.{oneAt, twoAt, fourAt}
-use Rattle.calendar.specs.Dates.{completedMonths, monthsEarly, isLeap, monthLength, dateStands, isBefore, datesRefusal}
+use Rattle.calendar.specs.Dates.{isLeap, monthLength, completingDay, completedMonths, monthsEarly, dateStands, isBefore, datesRefusal}
 use Rattle.posts.specs.Posts.{aggregate, aggregatePay}
 use Rattle.posts.specs.Refusals.{postStands, postRefusal}
 use Rattle.posts.specs.Call.{postAt}
@@ -40,7 +40,7 @@ abbrev pub printedOutcome : Outcome
 printedOutcome = Outcome.Worked (record { «net_2015» = record { 0 = 66667 }; «net_1995» = record { 0 = 0 }; «net_lump_sum» = record { 0 = 0 }; charge = record { 0 = 0 } })
 
 pub printed-text : workText printedText ≡ printedOutcome
-unfolding rounded oneAt twoAt fourAt completedMonths monthsEarly isLeap monthLength dateStands isBefore datesRefusal aggregate aggregatePay postStands postRefusal postAt revalued accrued afterYear lumpDebit dateAt memberIn yearIn frameLength frameOf decoded memberRefusal yearStands lastOf beforePay hasSection inOrder isNext yearRefusal openPosts fieldsRefusal refusalOf addPost keep refusalOfDecoded keepDecoded early pensionFrom pensionOf ownPay pension1995 factorFor reducedIf gross2015 gross1995 grossLumpSum debitFor debitOf debit2015 debit1995 chargeOf payThere factorsThere debitsFit closingOf amountsOf workedUnless answerOf characterThen linesOf digitOf byteThen bytesOf lineBytes decodedLine framesOf readFrom workText
+unfolding rounded oneAt twoAt fourAt isLeap monthLength completingDay completedMonths monthsEarly dateStands isBefore datesRefusal aggregate aggregatePay postStands postRefusal postAt revalued accrued afterYear lumpDebit dateAt memberIn yearIn frameLength frameOf decoded memberRefusal yearStands lastOf beforePay hasSection inOrder isNext yearRefusal openPosts fieldsRefusal refusalOf addPost keep refusalOfDecoded keepDecoded early pensionFrom pensionOf ownPay pension1995 factorFor reducedIf gross2015 gross1995 grossLumpSum debitFor debitOf debit2015 debit1995 chargeOf payThere factorsThere debitsFit closingOf amountsOf workedUnless answerOf characterThen linesOf digitOf byteThen bytesOf lineBytes decodedLine framesOf readFrom workText
 printed-text = refl
 
 pub printed-line : printedOf printedOutcome ≡ printedLine

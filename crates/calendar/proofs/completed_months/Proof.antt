@@ -24,22 +24,28 @@ add-months-2 c = search needs
 sub-months : tie.Need-sub-months
 sub-months c = omega (arith, ordered _ _ (started c .pre))
 
+completing-day-requires : tie.Need-completing-day-requires
+completing-day-requires c κs = search needs
+
 sub-t9 : tie.Need-sub-t9
 sub-t9 c =
     let numbered = c .before .before .before in
-    omega (arith, ordered-short _ _ (started numbered .pre) (c .if1 .taken))
+    let completing = c .before .before .completing-day .ensures in
+    omega (arith, ordered-short _ _ (started numbered .pre) (omega (arith, completing)))
 
 returns : tie.Need-returns
 returns c =
     let numbered = c .before .before .before in
-    completed-short _ _ (started numbered .pre) (c .if1 .taken)
+    let completing = c .before .before .completing-day .ensures in
+    completed-short _ _ (started numbered .pre) (omega (arith, completing))
 
 returns-2 : tie.Need-returns-2
 returns-2 c =
     let numbered = c .before .before .before in
-    completed-full _ _ (started numbered .pre) (c .if1 .left)
+    let completing = c .before .before .completing-day .ensures in
+    completed-full _ _ (started numbered .pre) (omega (arith, completing))
 
 pub completed-months-spec : {M : Type 1} → statement M
 completed-months-spec =
     tie.close
-    (tie.spec mul-months add-months mul-months-2 add-months-2 sub-months sub-t9 returns returns-2)
+    (tie.spec mul-months add-months mul-months-2 add-months-2 sub-months completing-day-requires sub-t9 returns returns-2)
