@@ -303,6 +303,17 @@ static void dates(void)
     months(__LINE__, canyonsieve_months_early(1900, 1, 1, 2100, 12, 31, 55), 0, -1751);
     months(__LINE__, canyonsieve_months_early(2000, 2, 29, 2060, 2, 28, 60), 0, 1);
 
+    /* A month too short for the birth day is completed on its last day. */
+    months(__LINE__, canyonsieve_months_early(1970, 8, 31, 2030, 6, 29, 60), 0, 3);
+    months(__LINE__, canyonsieve_months_early(1970, 8, 31, 2030, 6, 30, 60), 0, 2);
+    months(__LINE__, canyonsieve_months_early(1970, 8, 31, 2030, 7, 1, 60), 0, 2);
+    months(__LINE__, canyonsieve_months_early(1970, 8, 31, 2030, 7, 30, 60), 0, 2);
+    months(__LINE__, canyonsieve_months_early(1972, 2, 29, 2031, 2, 28, 60), 0, 12);
+    months(__LINE__, canyonsieve_months_early(1972, 2, 29, 2032, 2, 28, 60), 0, 1);
+    months(__LINE__, canyonsieve_months_early(1972, 2, 29, 2032, 2, 29, 60), 0, 0);
+    months(__LINE__, canyonsieve_months_early(2000, 1, 31, 2100, 2, 27, 60), 0, -480);
+    months(__LINE__, canyonsieve_months_early(2000, 1, 31, 2100, 2, 28, 60), 0, -481);
+
     months(__LINE__, canyonsieve_months_early(1960, 5, 15, 1960, 5, 14, 60), CANYONSIEVE_DATES, 0);
     months(__LINE__, canyonsieve_months_early(1899, 12, 31, 1960, 1, 1, 60), CANYONSIEVE_DATES, 0);
     months(__LINE__, canyonsieve_months_early(1900, 1, 1, 2101, 1, 1, 60), CANYONSIEVE_DATES, 0);
@@ -370,6 +381,14 @@ static void refused(int line, const char *text, uint64_t refusal, uint64_t at)
 #define YEAR "0207DF0000\n"
 #define POSTS "0305DC08CA0027AC40\n03038408CA00124F80\n"
 
+/* Born 31 August 1970, pension age 60: out on the last day of June 2030, and on the day before it. A post that earns a
+ * pension of 500.00, and factors of 0.990 and 0.980. */
+#define LAST_OF_JUNE "0107B2081F07EE061E003C\n"
+#define DAY_BEFORE_IT "0107B2081F07EE061D003C\n"
+#define POST_OF_500 "03070808CA002932E0\n"
+#define TWO_MONTHS "0500000203DE0000\n"
+#define THREE_MONTHS "0500000303D40000\n"
+
 static void cases(void)
 {
     static const uint64_t no_record[6] = {CANYONSIEVE_ORDER, 0, 0, 0, 0, 0};
@@ -381,6 +400,12 @@ static void cases(void)
     /* A member with a section: the final pay and the charge of the starred figure. */
     worked(__LINE__, "0107B2040107F504010143\n" YEAR POSTS "04002DC6C0002F4D600030D400003D09000041004100410" "71C8407E4\n", 66667, 1000000,
            3000000, 3433600);
+
+    /* The factor is that of the months that the last day completed. */
+    worked(__LINE__, LAST_OF_JUNE YEAR POST_OF_500 TWO_MONTHS, 49500, 0, 0, 0);
+    refused(__LINE__, LAST_OF_JUNE YEAR POST_OF_500 THREE_MONTHS, CANYONSIEVE_NO_FACTOR, 0);
+    worked(__LINE__, DAY_BEFORE_IT YEAR POST_OF_500 THREE_MONTHS, 49000, 0, 0, 0);
+    refused(__LINE__, DAY_BEFORE_IT YEAR POST_OF_500 TWO_MONTHS, CANYONSIEVE_NO_FACTOR, 0);
 
     outcome(__LINE__, NULL, 0, no_record);
     refused(__LINE__, "\n", CANYONSIEVE_LINE, 1);

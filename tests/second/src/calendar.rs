@@ -42,6 +42,23 @@ impl Date {
             && (1..=month_length(self.year, self.month)).contains(&self.day)
     }
 
+    /// Whether this is the last day of its month.
+    pub fn ends_month(self) -> bool {
+        self.day == month_length(self.year, self.month)
+    }
+
+    /// Whether the month of this date is too short for the day of another.
+    pub fn lacks_day_of(self, other: Date) -> bool {
+        month_length(self.year, self.month) < other.day
+    }
+
+    /// The day of a month that completes it for somebody born on this date: that of the same number
+    /// or, in a month too short for it, the last.
+    pub fn completes(self, year: u64, month: u64) -> Date {
+        let day = self.day.min(month_length(year, month));
+        Date { year, month, day }
+    }
+
     /// The days from 1 March of the year 0.
     fn day_count(self) -> u64 {
         days_to_first(self.year, self.month) + self.day - 1
@@ -55,13 +72,16 @@ pub fn try_dates(birth: Date, retirement: Date, pension_age: u64) -> Result<(), 
     unless((55..=75).contains(&pension_age), 5)
 }
 
-/// Whether `months` months after the birth are over at retirement. A day number that the month
-/// reached does not have is still compared as a number.
+/// Whether `months` months after the birth are over at retirement.
 fn completed(birth: Date, retirement: Date, months: u64) -> bool {
     let reached = birth.month - 1 + months;
-    let year = birth.year + reached / 12;
-    let month = reached % 12 + 1;
-    (year, month, birth.day) <= (retirement.year, retirement.month, retirement.day)
+    let over = birth.completes(birth.year + reached / 12, reached % 12 + 1);
+    over.day_count() <= retirement.day_count()
+}
+
+/// Whether retirement is on the last day of a month too short for the birth day.
+pub fn completed_by_last_day(birth: Date, retirement: Date) -> bool {
+    retirement.lacks_day_of(birth) && retirement.ends_month()
 }
 
 /// The completed months between two dates of the calendar, counted by years, then one by one.
@@ -81,14 +101,19 @@ pub fn months_before(birth: Date, retirement: Date, pension_age: u64) -> i64 {
     12 * pension_age as i64 - age_in_months(birth, retirement)
 }
 
-/// The dates call on birth, retirement and pension age: refusal and months early.
-pub fn months_early(call: &[u64; 7]) -> (u64, i64) {
+/// Birth and retirement of a dates call.
+pub fn dates_of(call: &[u64; 7]) -> (Date, Date) {
     let date = |at: usize| Date {
         year: call[at],
         month: call[at + 1],
         day: call[at + 2],
     };
-    let (birth, retirement, pension_age) = (date(0), date(3), call[6]);
+    (date(0), date(3))
+}
+
+/// The dates call on birth, retirement and pension age: refusal and months early.
+pub fn months_early(call: &[u64; 7]) -> (u64, i64) {
+    let ((birth, retirement), pension_age) = (dates_of(call), call[6]);
     match try_dates(birth, retirement, pension_age) {
         Ok(()) => (0, months_before(birth, retirement, pension_age)),
         Err(refusal) => (refusal, 0),
@@ -112,11 +137,20 @@ mod tests {
     }
 
     #[test]
-    fn months_are_counted_by_day_numbers() {
-        assert_eq!(months_early(&[1960, 1, 31, 1960, 2, 29, 55]), (0, 660));
+    fn months_are_completed_on_birth_days() {
         assert_eq!(months_early(&[1960, 1, 31, 1960, 3, 30, 55]), (0, 659));
         assert_eq!(months_early(&[1960, 1, 31, 1960, 3, 31, 55]), (0, 658));
         assert_eq!(months_early(&[1960, 5, 5, 1960, 5, 5, 75]), (0, 900));
         assert_eq!(months_early(&[1900, 1, 1, 2100, 12, 31, 55]), (0, -1751));
+    }
+
+    #[test]
+    fn the_last_day_completes_a_short_month() {
+        assert_eq!(months_early(&[1960, 1, 31, 1960, 2, 28, 55]), (0, 660));
+        assert_eq!(months_early(&[1960, 1, 31, 1960, 2, 29, 55]), (0, 659));
+        assert_eq!(months_early(&[1960, 1, 31, 1961, 2, 27, 55]), (0, 648));
+        assert_eq!(months_early(&[1960, 1, 31, 1961, 2, 28, 55]), (0, 647));
+        assert_eq!(months_early(&[1960, 1, 30, 1960, 4, 29, 55]), (0, 658));
+        assert_eq!(months_early(&[1960, 1, 30, 1960, 4, 30, 55]), (0, 657));
     }
 }

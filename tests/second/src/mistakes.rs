@@ -1,7 +1,6 @@
 //! Six mistakes that case officers make: workings of a case with exactly one step wrong. Each shows on
 //! its own example, `examples/NAME.txt`, and on none of the other five.
 
-use crate::calendar::Date;
 use crate::cases::{Case, Outcome};
 use crate::posts::{
     aggregate, aggregate_of, by_rate, filled, minutes_together, parts_of, parts_together, Post,
@@ -67,13 +66,10 @@ pub fn closed(case: &Case, mistake: Mistake) -> Result<Outcome, u64> {
 fn complete_month(case: &mut Case) {
     if let Some(member) = &mut case.member {
         let (birth, retirement) = (member.birth, member.retirement);
-        let next = u64::from(retirement.day > birth.day);
+        let over = birth.completes(retirement.year, retirement.month);
+        let next = u64::from(retirement.day > over.day);
         let months = 12 * retirement.year + retirement.month - 1 + next;
-        member.retirement = Date {
-            year: months / 12,
-            month: months % 12 + 1,
-            day: birth.day,
-        };
+        member.retirement = birth.completes(months / 12, months % 12 + 1);
     }
 }
 

@@ -187,7 +187,7 @@ pub fn final_pay(random: &mut Random) -> FinalPay {
     }
 }
 
-/// A date of the calendar in a month; the month's last days are common.
+/// A date of the calendar in a month; the month's first and last days are common.
 pub fn date_in(random: &mut Random, year: u64, month: u64) -> Date {
     Date {
         year,
@@ -196,10 +196,34 @@ pub fn date_in(random: &mut Random, year: u64, month: u64) -> Date {
     }
 }
 
-/// A date some months after another; its day is any of that month.
-fn date_after(random: &mut Random, date: Date, months: u64) -> Date {
-    let reached = date.year * 12 + date.month - 1 + months;
-    date_in(random, reached / 12, reached % 12 + 1)
+/// One of the last four days of a month, the last of all most often.
+pub fn end_of(random: &mut Random, year: u64, month: u64) -> Date {
+    let left = random.pick(&[0, 0, 0, 1, 1, 2, 3]);
+    Date {
+        year,
+        month,
+        day: month_length(year, month) - left,
+    }
+}
+
+/// A birth and a retirement so many months later, both on last days of a month or near them, the
+/// retirement in a month of fewer than 31 days. A birth in February is in a year whose number is a
+/// multiple of 4.
+pub fn dates_at_ends(random: &mut Random, year: u64, months: u64) -> (Date, Date) {
+    let short = random.pick(&[2, 2, 2, 4, 6, 9, 11]);
+    let month = (short + 11 - months % 12) % 12 + 1;
+    let year = if month == 2 { year / 4 * 4 } else { year };
+    let reached = year * 12 + month - 1 + months;
+    let birth = end_of(random, year, month);
+    (birth, end_of(random, reached / 12, reached % 12 + 1))
+}
+
+/// A birth in the year and a retirement so many months later, in any months.
+fn dates_in_months(random: &mut Random, year: u64, months: u64) -> (Date, Date) {
+    let month = random.between(1, 12);
+    let reached = year * 12 + month - 1 + months;
+    let birth = date_in(random, year, month);
+    (birth, date_in(random, reached / 12, reached % 12 + 1))
 }
 
 /// The months of age at retirement for which dates are drawn: round a pension age, or any.
@@ -220,9 +244,11 @@ pub fn member(random: &mut Random, section: u64) -> Member {
         let pension_age = random.near_ends(55, 75);
         let months = age_months(random, pension_age);
         let birth_year = random.near_ends(1900, 2099 - months / 12);
-        let birth_month = random.between(1, 12);
-        let birth = date_in(random, birth_year, birth_month);
-        let retirement = date_after(random, birth, months);
+        let (birth, retirement) = if random.one_in(4) {
+            dates_at_ends(random, birth_year, months)
+        } else {
+            dates_in_months(random, birth_year, months)
+        };
         let member = Member {
             birth,
             retirement,

@@ -340,15 +340,25 @@ fn any_date(random: &mut Random) -> Date {
     }
     let year = random.near_ends(1900, 2100);
     let month = random.between(1, 12);
+    if random.one_in(4) {
+        return accepted::end_of(random, year, month);
+    }
     accepted::date_in(random, year, month)
 }
 
-/// A dates call that is accepted: some of any dates, some of one month or near a pension age.
+/// A dates call that is accepted: some of any dates, some of one month, at ends of months or near
+/// a pension age.
 pub fn dates_call(random: &mut Random) -> DatesCall {
     let pension_age = random.near_ends(55, 75);
     if random.one_in(2) {
         let member = accepted::member(random, 0);
         return dates(member.birth, member.retirement, member.pension_age);
+    }
+    if random.one_in(4) {
+        let year = random.near_ends(1900, 2098);
+        let months = random.between(1, 12 * (2099 - year));
+        let (birth, retirement) = accepted::dates_at_ends(random, year, months);
+        return dates(birth, retirement, pension_age);
     }
     let (one, mut other) = (any_date(random), any_date(random));
     if random.one_in(8) {
@@ -388,6 +398,22 @@ pub fn every_day() -> impl Iterator<Item = DatesCall> {
             [year, month, day, 2100, 12, 31, 60],
             [1900, 1, 1, year, month, day, 60],
         ]
+    })
+}
+
+/// Births on every day of January to March 1972, each with a retirement on every day of 2031, of
+/// 2032, which is a leap year, and of 2100, which is none.
+pub fn every_birth_day() -> impl Iterator<Item = DatesCall> {
+    let days_of = |year: u64, months: u64| {
+        (1..=months).flat_map(move |month| {
+            (1..=month_length(year, month)).map(move |day| Date { year, month, day })
+        })
+    };
+    days_of(1972, 3).flat_map(move |birth| {
+        [2031, 2032, 2100]
+            .into_iter()
+            .flat_map(move |year| days_of(year, 12))
+            .map(move |retirement| dates(birth, retirement, 60))
     })
 }
 

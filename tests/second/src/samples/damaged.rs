@@ -255,6 +255,11 @@ pub const CAUSES: &[Cause] = &[
         "no factor for a pension of 0",
         closing::no_factor_of_nought,
     ),
+    own(
+        13,
+        "the factor of the day numbers' months alone",
+        closing::factor_of_day_numbers,
+    ),
     own(13, "months early above 600", closing::too_early),
     own(13, "13 before 14", closing::thirteen_first),
     own(

@@ -1,8 +1,9 @@
 //! The classes of accepted inputs, read off the inputs themselves.
 
 use second::benefits::FinalPay;
-use second::calendar::months_early;
+use second::calendar::{completed_by_last_day, dates_of, months_early};
 use second::cases::{Case, Year};
+use second::frames::Member;
 use second::posts::{minutes_together, parts_of, parts_together, Post};
 
 /// Whether some post of a year without a whole-time post has fewer parts than its own minutes.
@@ -128,6 +129,12 @@ fn early(case: &Case, scheme: u64) -> bool {
     case.months_early(scheme).map_or(false, |months| months > 0)
 }
 
+/// Whether retirement is on the last day of a month too short for the birth day.
+fn by_last_day(case: &Case) -> bool {
+    let completed = |member: Member| completed_by_last_day(member.birth, member.retirement);
+    case.member.map_or(false, completed)
+}
+
 /// Whether there are just these debits, 2015 first.
 fn debited(case: &Case, schemes: &[u64]) -> bool {
     let had: Vec<u64> = case.debits.iter().map(|debit| debit.scheme).collect();
@@ -247,6 +254,17 @@ pub const CASE_CLASSES: &[Test<Case>] = &[
     ("one month late", 200, |case| {
         case.months_early(0) == Some(-1)
     }),
+    ("a 2015 factor by a short month's last day", 1_000, |case| {
+        early(case, 0) && by_last_day(case)
+    }),
+    ("a 1995 factor by a short month's last day", 1_000, |case| {
+        early(case, 1) && by_last_day(case)
+    }),
+    (
+        "months early nought by a short month's last day",
+        20,
+        |case| case.months_early(0) == Some(0) && by_last_day(case),
+    ),
     (
         "factors whose months start again with scheme 1",
         1_000,
@@ -350,7 +368,37 @@ pub const DATES_CLASSES: &[Test<[u64; 7]>] = &[
     ("a leap day", 500, |call| {
         call[1..3] == [2, 29] || call[4..6] == [2, 29]
     }),
+    ("the last day of a month too short", 2_000, ends_short_month),
+    ("another day of a month too short", 2_000, |call| {
+        let (birth, retirement) = dates_of(call);
+        retirement.lacks_day_of(birth) && !retirement.ends_month()
+    }),
+    ("28 February of a month too short", 500, |call| {
+        call[4..6] == [2, 28] && ends_short_month(call)
+    }),
+    ("29 February of a month too short", 200, |call| {
+        call[4..6] == [2, 29] && ends_short_month(call)
+    }),
+    ("28 February of a leap year, born on a 29th", 20, |call| {
+        call[2] == 29 && call[4..6] == [2, 28] && !dates_of(call).1.ends_month()
+    }),
+    ("born on 29 February, out on 28 February", 50, |call| {
+        call[1..3] == [2, 29] && call[4..6] == [2, 28]
+    }),
+    (
+        "a last day of a month that has the birth day",
+        1_000,
+        |call| {
+            let (birth, retirement) = dates_of(call);
+            retirement.ends_month() && !retirement.lacks_day_of(birth)
+        },
+    ),
 ];
+
+fn ends_short_month(call: &[u64; 7]) -> bool {
+    let (birth, retirement) = dates_of(call);
+    completed_by_last_day(birth, retirement)
+}
 
 fn months(call: &[u64; 7]) -> i64 {
     months_early(call).1

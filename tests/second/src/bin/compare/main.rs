@@ -14,8 +14,8 @@ use second::engine;
 use second::random::Random;
 use second::samples::calls::{
     abatement_call, any_abatement_call, any_charge_call, any_dates_call, any_posts_call,
-    charge_call, dates_call, every_day, posts_call, CallCause, PostsCall, ABATEMENT_CAUSES,
-    CHARGE_CAUSES, DATES_CAUSES, POSTS_CAUSES,
+    charge_call, dates_call, every_birth_day, every_day, posts_call, CallCause, PostsCall,
+    ABATEMENT_CAUSES, CHARGE_CAUSES, DATES_CAUSES, POSTS_CAUSES,
 };
 use second::samples::damaged::mixed::{mixed_frames, one_byte_changed, random_damage};
 use second::samples::damaged::CAUSES;
@@ -370,6 +370,10 @@ fn main() {
     for call in every_day() {
         let refusal = DATES_CALL.compare(&mut tally, &call);
         tally.add(&format!("dates, every day: refusal {refusal}"));
+    }
+    for call in every_birth_day() {
+        let refusal = DATES_CALL.compare(&mut tally, &call);
+        tally.add(&format!("dates, every birth day: refusal {refusal}"));
     }
     ABATEMENT_CALL.compare_all(&mut tally, &mut random);
     compare_cases(&mut tally, &mut random);

@@ -2,7 +2,7 @@
 
 use super::sheets::refused_at_end;
 use super::Damaged;
-use crate::calendar::Date;
+use crate::calendar::{completed_by_last_day, Date};
 use crate::cases::Case;
 use crate::frames::{Debit, Factor};
 use crate::random::Random;
@@ -89,6 +89,34 @@ pub(super) fn no_factor_of_nought(random: &mut Random) -> Damaged {
     } else {
         without_factor(random, &mut case, 0);
     }
+    refused_at_end(&case)
+}
+
+/// A case early in the 2015 Scheme whose last month a short month's last day completed.
+fn case_by_last_day(random: &mut Random) -> Case {
+    loop {
+        let case = accepted::case(random);
+        let member = case.member.expect("a member");
+        let early = case.months_early(0).expect("a scheme") > 0;
+        if early && completed_by_last_day(member.birth, member.retirement) {
+            return case;
+        }
+    }
+}
+
+/// The factor is there for the months that comparing the day numbers would give, one more, and
+/// not for those that are wanted.
+pub(super) fn factor_of_day_numbers(random: &mut Random) -> Damaged {
+    let mut case = case_by_last_day(random);
+    let months = case.months_early(0).expect("a scheme") as u64;
+    if months == 600 {
+        return factor_of_day_numbers(random);
+    }
+    let wanted = |factor: &Factor| (factor.scheme, factor.months) == (0, months);
+    let next = |factor: &Factor| (factor.scheme, factor.months) == (0, months + 1);
+    case.factors.retain(|factor| !next(factor));
+    let factor = case.factors.iter_mut().find(|factor| wanted(factor));
+    factor.expect("the wanted factor").months += 1;
     refused_at_end(&case)
 }
 
