@@ -250,6 +250,9 @@ CANYONSIEVE_CHECKED struct canyonsieve_outcome canyonsieve_case(const uint8_t *t
 
 /* Months early: from the age at retirement, in completed months, to pension age. Below 0 for months late.
  *
+ * A month of age is completed on the birth day or, in a month too short for that day, on the month's last day: born on
+ * 31 August, the month is completed on 30 June.
+ *
  * Years, months and days are calendar numbers, January being 1. pension_age is in years.
  *
  * Refusal 5: a date or the pension age is out of range, or retirement is before birth. Retirement on the day
