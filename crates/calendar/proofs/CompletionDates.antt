@@ -1,5 +1,5 @@
 -- Completed months as days of the calendar: n months of age are completed from one day on, and not before it.
-use Prim.Native.Nat.{ℕ, _+_, _*_, _-_, _/_, _%_, _≤_, _<_}
+use Prim.Native.Nat.{ℕ, _+_, _-_, _/_, _%_, _≤_}
 use mathlib.Core.Bool.{Bool, true, false, cond}
 use mathlib.Core.Path.{_≡_, refl, sym, _∙_}
 use native.Mathlib.Omega.{arith}
@@ -12,7 +12,7 @@ use Rattle.calendar.specs.Ranges.{Accepted}
 use Rattle.calendar.proofs.MonthNumbers.{monthNumber, by-month-number}
 use Rattle.calendar.proofs.CountedMonths.{oneFewer, ordered, completed}
 
--- the day on which so many months of age are completed: so many months after the birth's month, on the day that completes it
+-- the day on which so many months of age are completed: so many months after the birth's month, on the day that completes it, for which only its year and month matter
 abbrev pub completionDate : Date → ℕ → Date
 completionDate birth months =
     let before = monthNumber birth + months - 1 in
