@@ -6,6 +6,7 @@ use native.Mathlib.Omega.{arith}
 use lib.Dec.{eqb, ltb}
 use lib.IntN.{pos}
 use borrow.Author.Tests.{eqb-true, eqb-false, ltb-true, ltb-false, lt-ltb, le-ltb}
+use Rattle.measures.proofs.Tests.{both-sides}
 use Rattle.calendar.specs.declared.Date.{Date}
 use Rattle.calendar.specs.Dates.{dateOf, completingDay, completedMonths, isBefore}
 use Rattle.calendar.specs.Ranges.{Accepted}
@@ -19,10 +20,6 @@ completionDate birth months =
     let year = before / 12 in
     let month = before % 12 + 1 in
     dateOf year month (completingDay birth (dateOf year month 0))
-
-at-most-one : (s : Bool) → cond s 1 0 ≤ 1
-at-most-one true = omega arith
-at-most-one false = omega arith
 
 module _ (birth retirement : Date) (accepted : Accepted birth retirement) (age : ℕ) (e : pos age ≡ completedMonths birth retirement) where
   -- the age, by the number of the retirement's month
@@ -53,7 +50,9 @@ module _ (birth retirement : Date) (accepted : Accepted birth retirement) (age :
         by true p true q u r = rw (same-month (eqb-true _ _ p), q, lt-ltb age months (omega (arith, counted true q, eqb-true)))
         by true p false q u r = rw (same-month (eqb-true _ _ p), q, le-ltb age months (omega (arith, counted false q, eqb-true)))
         by false p s q true r = sym (lt-ltb age months (omega (arith, counted s q, ltb-true)))
-        by false p s q false r = sym (le-ltb age months (omega (arith, counted s q, at-most-one s, ltb-false, eqb-false)))
+        by false p s q false r =
+            let at-most-one = both-sides (λ (n : ℕ). n ≤ 1) s 1 0 (omega arith) (omega arith) in
+            sym (le-ltb age months (omega (arith, counted s q, at-most-one, ltb-false, eqb-false)))
 
   -- retirement is before that day exactly where the age is below so many months: they are completed from it on, and not before it
   pub completed-from : (months : ℕ) → isBefore retirement (completionDate birth months) ≡ ltb age months

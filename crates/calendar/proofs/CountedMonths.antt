@@ -6,6 +6,7 @@ use native.Mathlib.Omega.{arith}
 use lib.Dec.{eqb, ltb}
 use lib.IntN.{ℤ, pos, negℤ, _-ℤ_}
 use borrow.Author.Tests.{eqb-true, eqb-false, ltb-true, ltb-false, lt-ltb, le-ltb}
+use Rattle.measures.proofs.Tests.{clash}
 use Rattle.measures.proofs.Integers.{less, more}
 use Rattle.calendar.specs.declared.Date.{Date}
 use Rattle.calendar.specs.Dates.{completingDay, completedMonths, monthsEarly}
@@ -30,7 +31,7 @@ module _ (birth retirement : Date) (h : Accepted birth retirement) where
           → (s : Bool) → ltb (retirement .day) (completingDay birth retirement) ≡ s
           → cond t (ltb (retirement .day) (birth .day)) (ltb (monthNumber retirement) (monthNumber birth)) ≡ false
           → monthNumber birth + cond s 1 0 ≤ monthNumber retirement
-      by true e true f o = absurd (let never : ⊥ = omega (arith, ltb-true, ltb-false, completing-lower birth retirement .0) in never)
+      by true e true f o = clash (omega (arith, ltb-true, ltb-false, completing-lower birth retirement .0))
       by true e false f o = omega (arith, eqb-true)
       by false e true f o = omega (arith, eqb-false, ltb-false)
       by false e false f o = omega (arith, ltb-false)
