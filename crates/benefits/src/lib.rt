@@ -19,7 +19,7 @@ pub const HIGHEST_REVALUATION: u64 = 2000;
 pub const HIGHEST_ALLOWANCE: u64 = 1000;
 
 // The most days of service.
-const MOST_DAYS: u64 = 16425;
+pub const MOST_DAYS: u64 = 16425;
 
 // The highest factor of a charge, in hundredths.
 const HIGHEST_CHARGE_FACTOR: u64 = 10000;

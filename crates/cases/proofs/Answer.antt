@@ -4,11 +4,11 @@ use mathlib.Core.Path.{_≡_, refl}
 use mathlib.Core.Bool.{Bool, true, false, cond}
 use lib.Dec.{eqb}
 use Rattle.measures.specs.Refusals.{unless, firstRefusal}
-use Rattle.benefits.specs.Steps.{lumpDebit, charge}
+use Rattle.benefits.specs.Steps.{charge}
 use Rattle.rules.specs.declared.Amounts.{Amounts}
 use Rattle.rules.specs.declared.Outcome.{Outcome}
-use Rattle.rules.specs.Rules.{Frames, Kept, nothing, begun, hasSection}
-use Rattle.rules.specs.Working.{ownAggregates, ownPay, gross2015, gross1995, grossLumpSum, debit2015, debit1995, chargeOf, payThere, factorsThere, debitsFit, closingOf, amountsOf, workedUnless, answerOf}
+use Rattle.rules.specs.Rules.{Frames, Kept, nothing, begun, hasSection, inSection}
+use Rattle.rules.specs.Working.{ownAggregates, ownPay, gross2015, gross1995, grossLumpSum, debit2015, debit1995, debitLumpSum, chargeOf, payThere, factorsThere, debitsFit, closingOf, amountsOf, workedUnless, answerOf}
 use Rattle.years.specs.Years.{pensionNow}
 use Rattle.section.specs.Section.{payHeld}
 use Rattle.factors.specs.Factors.{factorsHeld}
@@ -21,12 +21,12 @@ use Rattle.debits.proofs.Debits as debits
 use Rattle.cases.specs.declared.Case.{Case}
 use Rattle.cases.specs.State.{start, openRefusal, grossOf, outcomeOf}
 use Rattle.cases.proofs.Stages.{stage-begun}
-use Rattle.cases.proofs.Represents.{Represents, Holds}
+use Rattle.cases.proofs.Represents.{Represents, Holds, Good}
 
-module _ (c : Case) (k : Frames) (h : Holds c k) where
+module _ (c : Case) (k : Frames) (h : Holds c k) (g : Good k) where
   pay-is : payHeld (c .member .section) (c .section) ≡ payThere k
   unfolding payThere hasSection
-  pay-is = rw (h .member) (section.held-is (c .section) (k .finalPay) (h .section) (k .member .section))
+  pay-is = rw (h .member) (section.held-is (c .section) (k .pay) (h .section) (k .member .section) (g .pay))
 
   factors-are : factorsHeld (c .member .section) (c .factors) ≡ factorsThere k
   unfolding factorsThere hasSection
@@ -36,18 +36,18 @@ module _ (c : Case) (k : Frames) (h : Holds c k) where
   unfolding openRefusal
   refusal-is = rw (pay-is, factors-are, h .stage, stage-begun k) refl
 
-  gross-is : grossOf c ≡ record { pension2015 = record { 0 = gross2015 k (ownAggregates (k .years)) }; pension1995 = record { 0 = gross1995 k (ownPay (k .finalPay)) }; «lump_sum» = record { 0 = grossLumpSum k (ownPay (k .finalPay)) } }
-  unfolding grossOf gross2015 gross1995 grossLumpSum hasSection
+  gross-is : grossOf c ≡ record { pension2015 = record { 0 = gross2015 k (ownAggregates (k .years)) }; pension1995 = record { 0 = gross1995 k (ownPay (k .pay)) }; «lump_sum» = record { 0 = grossLumpSum k (ownPay (k .pay)) } }
+  unfolding grossOf gross2015 gross1995 grossLumpSum hasSection inSection
   gross-is =
-      rw (h .member, section.earned-is (c .section) (k .finalPay) (h .section) (k .member .section) (pensionNow (c .years)), pension-now (c .years) (k .years) (h .years))
+      rw (h .member, section.earned-is (c .section) (k .pay) (h .section) (k .member .section) (g .pay) (pensionNow (c .years)), pension-now (c .years) (k .years) (h .years))
       (rw (factors.reduced-is (c .factors) (k .member) (k .factors) (h .factors)) (rw (reduced-only, reduced-only) refl))
 
-  debits-are : debitsOf (c .member .section) (c .debits) ≡ record { pension2015 = record { 0 = debit2015 k }; pension1995 = record { 0 = debit1995 k }; «lump_sum» = record { 0 = lumpDebit (debit1995 k) } }
-  unfolding debit2015 debit1995 hasSection
+  debits-are : debitsOf (c .member .section) (c .debits) ≡ record { pension2015 = record { 0 = debit2015 k }; pension1995 = record { 0 = debit1995 k }; «lump_sum» = record { 0 = debitLumpSum k } }
+  unfolding debit2015 debit1995 debitLumpSum hasSection inSection
   debits-are = rw (h .member) (debits.debits-are (c .debits) (k .debits) (h .debits) (k .member .section))
 
-  charge-is : charge (c .section .pay) ≡ chargeOf (k .finalPay)
-  charge-is = section.charge-held (c .section) (k .finalPay) (h .section)
+  charge-is : charge (c .section .pay) ≡ chargeOf (k .pay)
+  charge-is = section.charge-held (c .section) (k .pay) (h .section) (k .member .section) (g .pay)
 
 -- the refusals at the end in one row
 in-row : (a b d : ℕ) (amounts : Amounts) → cond (eqb (firstRefusal a b) 0) (workedUnless d amounts) (Outcome.Refused (record { number = firstRefusal a b; line = 0 })) ≡ workedUnless (firstRefusal a (firstRefusal b d)) amounts
@@ -67,5 +67,5 @@ pub closing-agrees : (c : Case) (k : Kept) → Represents c k → outcomeOf c �
 unfolding outcomeOf answerOf closingOf netOf debitsFit amountsOf openRefusal start
 closing-agrees c nothing h = rw h refl
 closing-agrees c (begun k) h =
-    rw (refusal-is c k (h .0), gross-is c k (h .0), debits-are c k (h .0), charge-is c k (h .0))
+    rw (refusal-is c k (h .0) (h .1), gross-is c k (h .0) (h .1), debits-are c k (h .0) (h .1), charge-is c k (h .0) (h .1))
     (in-row (unless (payThere k) 12) (unless (factorsThere k) 13) (unless (debitsFit k) 14) (amountsOf k))

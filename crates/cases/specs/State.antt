@@ -7,7 +7,6 @@ use Rattle.measures.specs.Refusals.{within, unless, firstRefusal}
 use Rattle.measures.specs.Tries.{tried, after}
 use Rattle.calendar.specs.declared.Date.{Date}
 use Rattle.benefits.specs.Steps.{charge}
-use Rattle.benefits.specs.Bounds.{FinalPayBounds}
 use Rattle.frames.specs.declared.Member.{Member}
 use Rattle.frames.specs.declared.Frame.{Frame}
 use Rattle.frames.specs.declared.Decoded.{Decoded}
@@ -17,10 +16,11 @@ use Rattle.rules.specs.declared.SchemeAmounts.{SchemeAmounts}
 use Rattle.years.specs.declared.YearsState.{YearsState}
 use Rattle.years.specs.declared.YearsTaken.{YearsTaken}
 use Rattle.section.specs.declared.SectionState.{SectionState}
+use Rattle.section.specs.declared.SectionTaken.{SectionTaken}
 use Rattle.factors.specs.declared.FactorsState.{FactorsState}
 use Rattle.debits.specs.declared.DebitsState.{DebitsState}
 use Rattle.years.specs.Years.{noYears, yearFields, postFields, pensionNow, withYear, withPost, YearsBounds}
-use Rattle.section.specs.Section.{noSection, payFields, withPay, payHeld, earnedOf}
+use Rattle.section.specs.Section.{noSection, payFields, withPay, tenPaysFields, withTenPays, payHeld, earnedOf, SectionBounds}
 use Rattle.factors.specs.Factors.{noFactors, factorsFor, factorFields, withFactor, factorsHeld, reducedBy, DatedBounds}
 use Rattle.debits.specs.Debits.{noDebits, debitFields, withDebit, debitsOf, netOf, DebitsBounds}
 use Rattle.cases.specs.declared.Case.{Case}
@@ -42,7 +42,7 @@ start = record { stage = 0; member = noMember; years = noYears; section = noSect
 
 -- ---- the refusal of a frame
 
--- whether a frame may follow. The stage is 0 without a frame, 1 after the 01, 2 after an 02 or 03, 3 after the 04, 4 after an 05, 5 after an 06.
+-- whether a frame may follow. The stage is 0 without a frame, 1 after the 01, 2 after an 02 or 03, 3 after the 04 or 08, 4 after an 05, 5 after an 06.
 unfoldable pub inOrderAt : ℕ → ℕ → Frame → Bool
 inOrderAt stage section (Frame.Member m) = eqb stage 0
 inOrderAt stage section (Frame.Year y) = within 1 2 stage
@@ -50,6 +50,7 @@ inOrderAt stage section (Frame.Post x) = eqb stage 2
 inOrderAt stage section (Frame.FinalPay f) = within 1 2 stage && eqb section 1
 inOrderAt stage section (Frame.Factor f) = within 1 4 stage
 inOrderAt stage section (Frame.Debit d) = leb 1 stage
+inOrderAt stage section (Frame.TenPays t) = within 1 2 stage && eqb section 2
 
 -- the refusal of its fields, by the part that takes it
 unfoldable pub caseFields : Case → Frame → ℕ
@@ -59,6 +60,7 @@ caseFields c (Frame.Post x) = postFields (c .years) x
 caseFields c (Frame.FinalPay f) = payFields (c .section) f
 caseFields c (Frame.Factor f) = factorFields (c .member .section) (c .factors) f
 caseFields c (Frame.Debit d) = debitFields (c .member .section) (c .debits) d
+caseFields c (Frame.TenPays t) = tenPaysFields (c .section) t
 
 -- 4, then its fields
 unfoldable pub caseRefusal : Case → Frame → ℕ
@@ -86,7 +88,7 @@ atDebits c stage s = record { stage = stage; member = c .member; years = c .year
 abbrev pub atMember : Case → Member → Case
 atMember c m = record { stage = 1; member = m; years = c .years; section = c .section; factors = factorsFor m; debits = c .debits }
 
--- by a frame of any of the six kinds
+-- by a frame of any of the seven kinds
 unfoldable pub caseNext : Case → Frame → Case
 caseNext c (Frame.Member m) = atMember c m
 caseNext c (Frame.Year y) = atYears c 2 (withYear (c .years) y)
@@ -94,6 +96,7 @@ caseNext c (Frame.Post x) = atYears c 2 (withPost (c .years) x)
 caseNext c (Frame.FinalPay f) = atSection c 3 (withPay (c .section) f)
 caseNext c (Frame.Factor f) = atFactors c 4 (withFactor (c .factors) f)
 caseNext c (Frame.Debit d) = atDebits c 5 (withDebit (c .debits) d)
+caseNext c (Frame.TenPays t) = atSection c 3 (withTenPays (c .section) t)
 
 -- ---- "taking a frame hands back the case advanced by it; a refused frame hands back the case unchanged"
 
@@ -104,6 +107,10 @@ handedBack refusal c next = record { case = cond (eqb refusal 0) next c; refusal
 -- the case with the years that a frame made, and their stage unless it was refused
 unfoldable pub withYearsTaken : Case → YearsTaken → Taken
 withYearsTaken c t = record { case = atYears c (cond (eqb (t .refusal) 0) 2 (c .stage)) (t .years); refusal = t .refusal }
+
+-- the case with the section's pay that a frame made, and its stage unless it was refused
+unfoldable pub withSectionTaken : Case → SectionTaken → Taken
+withSectionTaken c t = record { case = atSection c (cond (eqb (t .refusal) 0) 3 (c .stage)) (t .section); refusal = t .refusal }
 
 -- a frame that stands in its order, taken
 unfoldable pub takenInOrder : Case → Frame → Taken
@@ -155,6 +162,6 @@ outcomeOf c =
 -- of each part
 pub record Bounds (c : Case) : Type 0 where
   pub years : YearsBounds (c .years)
-  pub pay : FinalPayBounds (c .section .pay)
+  pub section : SectionBounds (c .section)
   pub dated : DatedBounds (c .factors .dated)
   pub debits : DebitsBounds (c .debits)

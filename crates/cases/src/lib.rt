@@ -1,4 +1,4 @@
-// The running case: document 01's rules over the frames of one member.
+// The running case: the rules over the frames of one member.
 use debits::DebitsState;
 use factors::FactorsState;
 use frames::Member;

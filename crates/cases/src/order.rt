@@ -1,4 +1,4 @@
-// The order of frames: one 01; any 02, each followed by its 03s; at most one 04, only with section 1; 05s; 06s.
+// The order of frames: one 01; any 02, each followed by its 03s; at most one 04, only with section 1, or 08, only with section 2; 05s; 06s.
 use frames::Frame;
 ghost use mathlib.Core.Path.{_≡_};
 ghost use mathlib.Core.Bool.{cond};
@@ -6,7 +6,7 @@ ghost use lib.Dec.{eqb};
 ghost use Rattle.measures.specs.Refusals.{within};
 ghost use Rattle.cases.specs.State.{inOrderAt};
 
-// The stages of a case, by which frames may follow: 0 without a frame, then after the 01, an 02 or 03, the 04, an 05, an 06.
+// The stages of a case, by which frames may follow: 0 without a frame, then after the 01, an 02 or 03, the 04 or 08, an 05, an 06.
 pub const MEMBER: u64 = 1;
 
 pub const YEARS: u64 = 2;
@@ -38,6 +38,7 @@ pub fn is_in_order(stage: u64, section: u64, frame: Frame) -> bool
         Frame::FinalPay(_) => is_within(stage, MEMBER, YEARS) & (section == 1),
         Frame::Factor(_) => is_within(stage, MEMBER, FACTORS),
         Frame::Debit(_) => MEMBER <= stage,
+        Frame::TenPays(_) => is_within(stage, MEMBER, YEARS) & (section == 2),
     }
 }
 

@@ -8,6 +8,7 @@ use super::order::PAY;
 use super::order::YEARS;
 use super::order::is_in_order;
 use super::order::stage_after;
+use averages::TenPays;
 use benefits::FinalPay;
 use calendar::Date;
 use debits::DebitsState;
@@ -23,6 +24,7 @@ use frames::member_refusal;
 use frames::refusal_in;
 use posts::Post;
 use section::SectionState;
+use section::SectionTaken;
 use years::YearsState;
 use years::YearsTaken;
 ghost use mathlib.Core.Path.{_≡_};
@@ -30,7 +32,7 @@ ghost use mathlib.Core.List.{[]};
 ghost use Rattle.frames.specs.Frames.{decoded};
 ghost use Rattle.frames.specs.declared.Decoded.{Decoded};
 ghost use Rattle.frames.specs.declared.Frame.{Frame};
-ghost use Rattle.cases.specs.State.{noMember, Bounds, withYearsTaken, takenInOrder, takenFrame, afterAll};
+ghost use Rattle.cases.specs.State.{noMember, Bounds, withYearsTaken, withSectionTaken, takenInOrder, takenFrame, afterAll};
 ghost use Rattle.cases.specs.Running.{IsCase, TakenFrom};
 
 // A member with noughts.
@@ -127,11 +129,10 @@ impl Case {
         self.with_years(self.years.take_post(x))
     }
 
-    // An 04.
-    fn take_pay(self, f: FinalPay) -> Taken
-        ensures { λ r. ⌜ r ≡ takenInOrder self (Frame.FinalPay f) ⌝ }
+    // The case with the section's pay that a frame made, at its stage.
+    fn with_section(self, taken: SectionTaken) -> Taken
+        ensures { λ r. ⌜ r ≡ withSectionTaken self taken ⌝ }
     {
-        let taken = self.section.take_pay(f);
         let section = taken.section;
         let mut case = self;
         case.stage = stage_after(self.stage, taken.refusal, PAY);
@@ -140,6 +141,20 @@ impl Case {
             case,
             refusal: taken.refusal,
         }
+    }
+
+    // An 04.
+    fn take_pay(self, f: FinalPay) -> Taken
+        ensures { λ r. ⌜ r ≡ takenInOrder self (Frame.FinalPay f) ⌝ }
+    {
+        self.with_section(self.section.take_pay(f))
+    }
+
+    // An 08.
+    fn take_ten_pays(self, t: TenPays) -> Taken
+        ensures { λ r. ⌜ r ≡ takenInOrder self (Frame.TenPays t) ⌝ }
+    {
+        self.with_section(self.section.take_ten_pays(t))
     }
 
     // An 05.
@@ -172,7 +187,7 @@ impl Case {
         }
     }
 
-    // A frame of any of the six kinds: 4, then its fields.
+    // A frame of any of the seven kinds: 4, then its fields.
     fn step(self, frame: Frame) -> Taken
         requires { ⌜ Bounds self ⌝ }
         ensures { λ r. ⌜ r ≡ takenFrame self frame ⌝ }
@@ -190,6 +205,7 @@ impl Case {
             Frame::FinalPay(f) => self.take_pay(f),
             Frame::Factor(f) => self.take_factor(f),
             Frame::Debit(d) => self.take_debit(d),
+            Frame::TenPays(t) => self.take_ten_pays(t),
         }
     }
 

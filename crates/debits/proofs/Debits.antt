@@ -12,18 +12,18 @@ use borrow.Author.Tests.{not-false, le-leb}
 use Rattle.measures.specs.Lists.{All}
 use Rattle.measures.specs.Refusals.{unless, firstRefusal}
 use Rattle.measures.specs.declared.Pence.{Pence}
-use Rattle.measures.proofs.Tests.{parts}
+use Rattle.measures.proofs.Tests.{both-sides, parts}
 use Rattle.benefits.specs.Steps.{pensionDebit, lumpDebit}
 use Rattle.benefits.proofs.Limits.{debit-limit}
 use Rattle.frames.specs.declared.Debit.{Debit}
-use Rattle.frames.specs.Limits.{debitRefusal}
+use Rattle.frames.specs.Limits.{isSection, debitRefusal}
 use Rattle.frames.proofs.Accepted.{debit-good}
 use Rattle.rules.specs.Rules.{lastOf, afterDebit}
 use Rattle.rules.specs.Working.{debitFor, debitOf}
 use Rattle.rules.proofs.Ends.{Ended, empty, ends, ended, last-end, debit-end, or-else}
 use Rattle.rules.specs.declared.SchemeAmounts.{SchemeAmounts}
 use Rattle.debits.specs.declared.DebitsState.{DebitsState}
-use Rattle.debits.specs.Debits.{noDebits, debitFields, debitBy, withDebit, debitsOf, covered, highestDebit, DebitsBounds}
+use Rattle.debits.specs.Debits.{noDebits, debitFields, debitBy, withDebit, pensionIf, lumpIf, debitsOf, covered, highestDebit, DebitsBounds}
 
 -- ---- the code
 
@@ -38,6 +38,11 @@ pub debits-fit : (gross debits : SchemeAmounts) (t : Bool) → t ≡ covered gro
 debits-fit gross debits t e n =
     let h : covered gross debits ≡ true = sym e ∙ not-false t n in
     record { pension2015 = search parts; pension1995 = search parts; lumpSum = search parts }
+
+-- no more than it is
+pub pension-if-most : (section debit most : ℕ) → debit ≤ most → pensionIf section debit ≤ most
+unfolding pensionIf
+pension-if-most section debit most h = both-sides (λ (n : ℕ). n ≤ most) (isSection section) debit 0 h (omega arith)
 
 -- ---- what is held of the 06s kept
 
@@ -110,8 +115,8 @@ module _ (s : DebitsState) (ds : List Debit) (h : HoldsDebits s ds) where
 
   pub debits-are : (section : ℕ) → debitsOf section s ≡ record {
     pension2015 = record { 0 = debitOf (debitFor 0 ds) };
-    pension1995 = record { 0 = cond (eqb section 1) (debitOf (debitFor 1 ds)) 0 };
-    «lump_sum» = record { 0 = lumpDebit (cond (eqb section 1) (debitOf (debitFor 1 ds)) 0) };
+    pension1995 = record { 0 = cond (isSection section) (debitOf (debitFor 1 ds)) 0 };
+    «lump_sum» = record { 0 = cond (eqb section 1) (lumpDebit (cond (isSection section) (debitOf (debitFor 1 ds)) 0)) 0 };
   }
-  unfolding debitsOf
+  unfolding debitsOf pensionIf lumpIf
   debits-are section = rw (h .pension2015, h .pension1995) refl

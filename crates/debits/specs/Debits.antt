@@ -8,7 +8,7 @@ use Rattle.measures.specs.declared.Pence.{Pence}
 use Rattle.benefits.specs.Limits.{highestPot}
 use Rattle.benefits.specs.Steps.{pensionDebit, lumpDebit}
 use Rattle.frames.specs.declared.Debit.{Debit}
-use Rattle.frames.specs.Limits.{debitRefusal}
+use Rattle.frames.specs.Limits.{isSection, debitRefusal}
 use Rattle.rules.specs.declared.Outcome.{Outcome}
 use Rattle.rules.specs.Working.{workedUnless}
 use Rattle.rules.specs.declared.SchemeAmounts.{SchemeAmounts}
@@ -39,13 +39,21 @@ debitTaken section s d = record { debits = tried (debitFields section) withDebit
 
 -- ---- closing
 
--- the 2015 debit, and with a section the 1995 debit and that of its lump sum
+-- the debit of the section's pension, 0 without a section
+unfoldable pub pensionIf : ℕ → ℕ → ℕ
+pensionIf section debit = cond (isSection section) debit 0
+
+-- that of the lump sum, in the 1995 Section alone
+unfoldable pub lumpIf : ℕ → ℕ → ℕ
+lumpIf section debit = cond (eqb section 1) (lumpDebit debit) 0
+
+-- the debit of each amount
 unfoldable pub debitsOf : ℕ → DebitsState → SchemeAmounts
 debitsOf section s =
     record {
       pension2015 = s .pension2015;
-      pension1995 = record { 0 = cond (eqb section 1) (s .pension1995 .0) 0 };
-      «lump_sum» = record { 0 = lumpDebit (cond (eqb section 1) (s .pension1995 .0) 0) };
+      pension1995 = record { 0 = pensionIf section (s .pension1995 .0) };
+      «lump_sum» = record { 0 = lumpIf section (pensionIf section (s .pension1995 .0)) };
     }
 
 -- each debit is at most what it is taken from

@@ -10,8 +10,8 @@ use rules::Refusal;
 use rules::SchemeAmounts;
 ghost use mathlib.Core.Path.{_≡_};
 ghost use Prim.Native.Nat.{_≤_};
-ghost use Rattle.benefits.specs.Limits.{highestPot};
-ghost use Rattle.debits.specs.Debits.{noDebits, debitFields, debitBy, debitTaken, debitsOf, covered, netOf, DebitsBounds};
+ghost use Rattle.benefits.specs.Limits.{highestPot, highestAmount};
+ghost use Rattle.debits.specs.Debits.{noDebits, debitFields, debitBy, debitTaken, pensionIf, lumpIf, debitsOf, covered, netOf, DebitsBounds};
 
 // The pension debit of each scheme, and the lowest scheme that an 06 may now have: 0 before the first, then one above the previous one's.
 pub struct DebitsState {
@@ -74,6 +74,27 @@ fn net(gross: SchemeAmounts, debits: SchemeAmounts, charge: Pence) -> Outcome
     })
 }
 
+// The debit of the section's pension, 0 without a section.
+fn pension_if(section: u64, debit: Pence) -> Pence
+    ensures { λ r. ⌜ r .0 ≡ pensionIf section (debit .0) ⌝ }
+{
+    if section == 0 {
+        return Pence(0);
+    }
+    debit
+}
+
+// The debit of the lump sum that goes with it: there is one in the 1995 Section alone.
+fn lump_if(section: u64, debit: Pence) -> Pence
+    requires { ⌜ debit .0 ≤ highestAmount ⌝ }
+    ensures { λ r. ⌜ r .0 ≡ lumpIf section (debit .0) ⌝ }
+{
+    if section != 1 {
+        return Pence(0);
+    }
+    lump_debit(debit)
+}
+
 impl DebitsState {
     // No 06 yet.
     pub fn none() -> DebitsState
@@ -119,21 +140,14 @@ impl DebitsState {
         DebitsTaken { debits, refusal: 0 }
     }
 
-    // The debit of each amount: the lump sum's goes with that of the section's pension.
+    // The debit of each amount: scheme 1's with a section, and the lump sum's with it in the 1995 Section alone.
     fn amounts(self, section: u64) -> SchemeAmounts
         requires { ⌜ DebitsBounds self ⌝ }
         ensures { λ r. ⌜ r ≡ debitsOf section self ⌝ }
     {
         let pension2015 = self.pension2015;
-        if section != 1 {
-            return SchemeAmounts {
-                pension2015,
-                pension1995: Pence(0),
-                lump_sum: Pence(0),
-            };
-        }
-        let pension1995 = self.pension1995;
-        let lump = lump_debit(pension1995);
+        let pension1995 = pension_if(section, self.pension1995);
+        let lump = lump_if(section, pension1995);
         SchemeAmounts {
             pension2015,
             pension1995,

@@ -1,5 +1,5 @@
 -- Months early and factors: the laws of the code, and what is held of the 05s kept.
-use Prim.Native.Nat.{ℕ, zero, suc, _*_, _≤_}
+use Prim.Native.Nat.{ℕ, zero, suc, _*_, _-_, _≤_}
 use mathlib.Core.Path.{_≡_, refl, sym, _∙_, ap, subst}
 use mathlib.Core.Bool.{Bool, true, false, _&&_, _||_, not, cond}
 use mathlib.Core.List.{List, [], _∷_, _++_}
@@ -12,16 +12,18 @@ use Rattle.measures.specs.declared.Months.{Months}
 use Rattle.measures.specs.Lists.{All}
 use Rattle.measures.specs.Rounding.{rounded}
 use Rattle.measures.specs.Refusals.{unless, firstRefusal}
-use Rattle.measures.proofs.Tests.{tried-second}
+use Rattle.measures.proofs.Tests.{clash, tried-second}
 use Rattle.calendar.specs.declared.MonthsEarly.{MonthsEarly}
-use Rattle.calendar.specs.Dates.{monthsOf}
+use Rattle.calendar.specs.declared.Date.{Date}
+use Rattle.calendar.specs.Dates.{completedMonths, monthsEarly, monthsOf}
+use Rattle.calendar.proofs.CountedMonths.{completed, late-months}
 use Rattle.benefits.specs.Steps.{reduced}
 use Rattle.frames.specs.declared.Member.{Member}
 use Rattle.frames.specs.declared.Factor.{Factor}
-use Rattle.frames.specs.Limits.{factorRefusal}
-use Rattle.frames.proofs.Accepted.{factor-good}
+use Rattle.frames.specs.Limits.{memberRefusal, isSection, factorRefusal}
+use Rattle.frames.proofs.Accepted.{member-good, factor-good}
 use Rattle.rules.specs.Rules.{given, lastOf, afterFactor}
-use Rattle.rules.specs.Working.{ifPositive, early2015, early1995, isFor, factorFor, pensionFactor, lumpFactor, factorThere, reducedIf}
+use Rattle.rules.specs.Working.{ifPositive, early, sectionPensionAge, early2015, early1995, isFor, factorFor, pensionFactor, lumpFactor, factorThere, reducedIf}
 use Rattle.rules.proofs.Ends.{Ended, empty, ends, ended, last-end, factor-end, or-else}
 use Rattle.rules.specs.declared.SchemeAmounts.{SchemeAmounts}
 use Rattle.factors.specs.declared.PreviousFactor.{PreviousFactor}
@@ -44,6 +46,21 @@ module _ {given : MonthsEarly} {months : Months} {exact : ℤ} (is : monthsOf gi
   pub late-wanted : given ≡ MonthsEarly.Late months → 0 ≡ ifPositive exact
   unfolding monthsOf
   late-wanted e = rw (← is, e) (late-none (months .0))
+
+-- at age 0 nobody is early: without a section no months are wanted
+at-no-age : (birth retirement : Date) (n : ℕ) → pos n ≡ completedMonths birth retirement → 0 ≡ ifPositive (monthsEarly birth retirement 0)
+at-no-age birth retirement n e = rw (← (late-months birth retirement 0 n e (omega arith))) (late-none (n - 12 * 0))
+
+pub early-none : (m : Member) → memberRefusal m ≡ 0 → m .section ≡ 0 → 0 ≡ early1995 m
+unfolding early
+early-none m e unsectioned = rw unsectioned (at-no-age _ _ _ (sym (completed _ _ (member-good m e .dates))))
+
+-- the pension age of a section is one that months early takes
+pub section-age : (section : ℕ) {age : ℕ} → age ≡ sectionPensionAge section → (section ≡ 0 → ⊥) → section ≤ 2 → (55 ≤ age) × (age ≤ 75)
+section-age zero e sectioned few = absurd (sectioned refl)
+section-age (suc zero) e sectioned few = (omega arith, omega arith)
+section-age (suc (suc zero)) e sectioned few = (omega arith, omega arith)
+section-age (suc (suc (suc n))) e sectioned few = clash (omega arith)
 
 -- ---- what is held of the 05s kept
 
@@ -151,7 +168,7 @@ module _ (s : FactorsState) (m : Member) (fs : List Factor) (h : HoldsFactors s 
 
   -- ---- closing
 
-  pub held-is : (section : ℕ) → factorsHeld section s ≡ (factorThere (early2015 m) (factorFor 0 (early2015 m) fs) && (not (eqb section 1) || factorThere (early1995 m) (factorFor 1 (early1995 m) fs)))
+  pub held-is : (section : ℕ) → factorsHeld section s ≡ (factorThere (early2015 m) (factorFor 0 (early2015 m) fs) && (not (isSection section) || factorThere (early1995 m) (factorFor 1 (early1995 m) fs)))
   unfolding factorsHeld datedOf
   held-is section = rw (h .dated) (rw (found-is, found-is) refl)
 

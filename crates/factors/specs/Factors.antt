@@ -7,7 +7,7 @@ use Rattle.measures.specs.Tries.{tried}
 use Rattle.benefits.specs.Limits.{highestEarlyFactor}
 use Rattle.frames.specs.declared.Member.{Member}
 use Rattle.frames.specs.declared.Factor.{Factor}
-use Rattle.frames.specs.Limits.{factorRefusal}
+use Rattle.frames.specs.Limits.{isSection, factorRefusal}
 use Rattle.rules.specs.Working.{early2015, early1995, isFor, reducedIf}
 use Rattle.rules.specs.declared.SchemeAmounts.{SchemeAmounts}
 use Rattle.factors.specs.declared.PreviousFactor.{PreviousFactor}
@@ -85,7 +85,7 @@ wantedFound months f = eqb months 0 || f .found
 unfoldable pub factorsHeld : ℕ → FactorsState → Bool
 factorsHeld section s =
     wantedFound (s .dated .early2015 .0) (s .dated .factor2015)
-    && (not (eqb section 1) || wantedFound (s .dated .early1995 .0) (s .dated .factor1995))
+    && (not (isSection section) || wantedFound (s .dated .early1995 .0) (s .dated .factor1995))
 
 -- the amounts reduced, each by its own factor
 unfoldable pub reducedBy : FactorsState → SchemeAmounts → SchemeAmounts

@@ -13,12 +13,9 @@ ghost use Prim.Native.Nat.{_^_, _≤_};
 ghost use Rattle.benefits.specs.Limits.{highestEarlyFactor};
 ghost use Rattle.calendar.specs.Ranges.{Accepted};
 ghost use Rattle.frames.specs.Limits.{memberRefusal};
-ghost use Rattle.rules.specs.Working.{early, reducedIf};
+ghost use Rattle.rules.specs.Working.{sectionPensionAge, early, early1995, reducedIf};
 ghost use Rattle.rules.specs.Amounts.{AmountsBounds};
 ghost use Rattle.factors.specs.Factors.{noneFound, noDated, noFactors, afterPrevious, factorFields, datedFor, factorsFor, foundBy, datedBy, factorTaken, wantedFound, factorsHeld, reducedBy, DatedBounds};
-
-// The pension age of the 1995 Section.
-const SECTION_PENSION_AGE: u64 = 60;
 
 // The scheme and the months of the previous 05, noughts before the first.
 pub struct PreviousFactor {
@@ -78,6 +75,17 @@ fn no_dated() -> Dated
     }
 }
 
+// The pension age of a section, 0 for none.
+fn section_pension_age(section: u64) -> u64
+    ensures { λ r. ⌜ r ≡ sectionPensionAge section ⌝ }
+{
+    match section {
+        1 => 60,
+        2 => 65,
+        _ => 0,
+    }
+}
+
 // Months early of a member at a pension age, 0 where retirement is not early.
 fn wanted_months(m: Member, pension_age: u64) -> Months
     requires { ⌜ (Accepted (m .birth) (m .retirement)) × (55 ≤ «pension_age») × («pension_age» ≤ 75) ⌝ }
@@ -90,13 +98,25 @@ fn wanted_months(m: Member, pension_age: u64) -> Months
     }
 }
 
+// Months early of a member in the section, 0 without one.
+fn section_months(m: Member) -> Months
+    requires { ⌜ memberRefusal m ≡ 0 ⌝ }
+    ensures { λ r. ⌜ r .0 ≡ early1995 m ⌝ }
+{
+    if m.section == 0 {
+        return Months(0);
+    }
+    let pension_age = section_pension_age(m.section);
+    wanted_months(m, pension_age)
+}
+
 // The months early of a member in each scheme, and no factors yet.
 fn dated_for(m: Member) -> Dated
     requires { ⌜ memberRefusal m ≡ 0 ⌝ }
     ensures { λ r. ⌜ r ≡ datedFor m ⌝ }
 {
     let early2015 = wanted_months(m, m.pension_age);
-    let early1995 = wanted_months(m, SECTION_PENSION_AGE);
+    let early1995 = section_months(m);
     let factor2015 = none_found();
     let factor1995 = none_found();
     Dated {
@@ -246,7 +266,7 @@ impl FactorsState {
         if !wanted_found(dated.early2015, dated.factor2015) {
             return false;
         }
-        if section != 1 {
+        if section == 0 {
             return true;
         }
         wanted_found(dated.early1995, dated.factor1995)

@@ -4,7 +4,7 @@ use mathlib.Core.Bool.{Bool, true, false, _&&_, _||_, not}
 use mathlib.Core.Path.{_≡_, refl}
 use native.Mathlib.Omega.{arith}
 use lib.Dec.{leb, eqb}
-use borrow.Author.Tests.{eqb-true, eq-eqb}
+use borrow.Author.Tests.{eqb-true, eqb-false, not-true}
 use Rattle.measures.specs.Refusals.{within}
 use Rattle.measures.proofs.Tests.{passed, parts, neither}
 use Rattle.benefits.specs.Limits.{highestRevaluation, highestEarlyFactor, highestPot}
@@ -15,12 +15,12 @@ use Rattle.frames.specs.declared.Member.{Member}
 use Rattle.frames.specs.declared.Year.{Year}
 use Rattle.frames.specs.declared.Factor.{Factor}
 use Rattle.frames.specs.declared.Debit.{Debit}
-use Rattle.frames.specs.Limits.{memberRefusal, yearStands, schemeStands, factorRefusal, debitRefusal}
+use Rattle.frames.specs.Limits.{memberRefusal, yearStands, schemeStands, hasLumpSum, factorRefusal, debitRefusal}
 
 -- a member without refusal 5
 pub record MemberGood (m : Member) : Type 0 where
   pub dates : Accepted (m .birth) (m .retirement)
-  pub section : m .section ≤ 1
+  pub section : m .section ≤ 2
   pub age-from : 55 ≤ m .«pension_age»
   pub age-to : m .«pension_age» ≤ 75
 
@@ -28,7 +28,7 @@ pub member-good : (m : Member) → memberRefusal m ≡ 0 → MemberGood m
 unfolding memberRefusal
 member-good m e =
     let none = neither (datesRefusal (m .birth) (m .retirement) (m .«pension_age»)) _ e in
-    let section : leb (m .section) 1 ≡ true = passed _ 5 (omega arith) (none .1) in
+    let section : leb (m .section) 2 ≡ true = passed _ 5 (omega arith) (none .1) in
     let age = accepted-age _ _ _ (none .0) in
     record { dates = accepted _ _ _ (none .0); section = search parts; age-from = age .0; age-to = age .1 }
 
@@ -45,20 +45,20 @@ year-good y e = record { april-from = search parts; april-to = search parts; rev
 -- a scheme that stands beside the member's section
 pub record SchemeGood (scheme section : ℕ) : Type 0 where
   pub known : scheme ≤ 1
-  pub own : scheme ≡ 1 → section ≡ 1
+  pub own : scheme ≡ 1 → 1 ≤ section
 
 pub scheme-good : (scheme section : ℕ) → schemeStands scheme section ≡ true → SchemeGood scheme section
 unfolding schemeStands
 scheme-good scheme section e = by (eqb scheme 0) refl e
   where
-    by : (t : Bool) → eqb scheme 0 ≡ t → (t || (eqb scheme 1 && eqb section 1)) ≡ true → SchemeGood scheme section
+    by : (t : Bool) → eqb scheme 0 ≡ t → (t || (eqb scheme 1 && not (eqb section 0))) ≡ true → SchemeGood scheme section
     by true q e =
         let none : scheme ≡ 0 = eqb-true _ _ q in
         record { known = omega arith; own = λ one. omega arith }
     by false q e =
         let one : scheme ≡ 1 = search parts in
-        let own : section ≡ 1 = search parts in
-        record { known = omega arith; own = λ _. own }
+        let own : not (eqb section 0) ≡ true = search parts in
+        record { known = omega arith; own = λ _. omega (arith, eqb-false section 0 (not-true (eqb section 0) own)) }
 
 -- a factor frame without refusal 10
 pub record FactorGood (f : Factor) (section : ℕ) : Type 0 where
@@ -67,20 +67,20 @@ pub record FactorGood (f : Factor) (section : ℕ) : Type 0 where
   pub months-to : f .months .0 ≤ 600
   pub pension : f .pension ≤ highestEarlyFactor
   pub lump : f .lump ≤ highestEarlyFactor
-  pub no-lump : f .scheme ≡ 0 → f .lump ≡ 0
+  pub no-lump : hasLumpSum (f .scheme) section ≡ false → f .lump ≡ 0
 
 pub factor-good : (f : Factor) (section : ℕ) → factorRefusal f section ≡ 0 → FactorGood f section
 unfolding factorRefusal
 factor-good f section e =
-    let held : (schemeStands (f .scheme) section && within 1 600 (f .months .0) && leb (f .pension) highestEarlyFactor && leb (f .lump) highestEarlyFactor && (not (eqb (f .scheme) 0) || eqb (f .lump) 0)) ≡ true = passed _ 10 (omega arith) e in
-    let lumped : (not (eqb (f .scheme) 0) || eqb (f .lump) 0) ≡ true = search parts in
+    let held : (schemeStands (f .scheme) section && within 1 600 (f .months .0) && leb (f .pension) highestEarlyFactor && leb (f .lump) highestEarlyFactor && (hasLumpSum (f .scheme) section || eqb (f .lump) 0)) ≡ true = passed _ 10 (omega arith) e in
+    let lumped : (hasLumpSum (f .scheme) section || eqb (f .lump) 0) ≡ true = search parts in
     record {
       scheme = scheme-good _ _ (search parts);
       months-from = search parts;
       months-to = search parts;
       pension = search parts;
       lump = search parts;
-      no-lump = λ none. eqb-true _ _ (rw (eq-eqb (f .scheme) 0 none) at lumped);
+      no-lump = λ none. eqb-true _ _ (rw none at lumped);
     }
 
 -- a debit frame without refusal 11

@@ -1,4 +1,4 @@
--- Document 01, "Frames": the frame that bytes are. "fields are unsigned, big-endian, widths in bytes"
+-- Document 01, "Frames", and the frame of request 2.4: the frame that bytes are. "fields are unsigned, big-endian, widths in bytes"
 use Prim.Native.Nat.{ℕ, _+_, _*_}
 use mathlib.Core.Bool.{cond}
 use mathlib.Core.List.{List}
@@ -10,6 +10,7 @@ use Rattle.posts.specs.declared.Post.{Post}
 use Rattle.posts.specs.Limits.{bytesOfPost}
 use Rattle.posts.specs.Call.{postAt}
 use Rattle.benefits.specs.declared.FinalPay.{FinalPay}
+use Rattle.averages.specs.declared.TenPays.{TenPays}
 use Rattle.frames.specs.declared.Member.{Member}
 use Rattle.frames.specs.declared.Year.{Year}
 use Rattle.frames.specs.declared.Factor.{Factor}
@@ -25,7 +26,7 @@ kindOf bytes = oneAt bytes 0
 unfoldable pub dateAt : List ℕ → ℕ → Date
 dateAt bytes at = record { year = twoAt bytes at; month = oneAt bytes (at + 2); day = oneAt bytes (at + 3) }
 
--- "01 member: birth and retirement (year 2, month 1, day 1 each), section 1 (0 none, 1 the 1995), pension age 1."
+-- "01 member: birth and retirement (year 2, month 1, day 1 each), section 1 (0 none, 1 the 1995), pension age 1."; "Section 2 joins the member frame."
 unfoldable pub memberIn : List ℕ → Member
 memberIn bytes =
     record { birth = dateAt bytes 1; retirement = dateAt bytes 5; section = oneAt bytes 9; «pension_age» = oneAt bytes 10 }
@@ -64,6 +65,23 @@ factorIn bytes =
 unfoldable pub debitIn : List ℕ → Debit
 debitIn bytes = record { scheme = oneAt bytes 1; pot = record { 0 = fourAt bytes 2 }; factor = twoAt bytes 6 }
 
+-- "Ten pays come in a frame 08 [..]: oldest first, 4 bytes each, then days 2."
+unfoldable pub tenPaysIn : List ℕ → TenPays
+tenPaysIn bytes =
+    record {
+      pay10 = record { 0 = fourAt bytes 1 };
+      pay9 = record { 0 = fourAt bytes 5 };
+      pay8 = record { 0 = fourAt bytes 9 };
+      pay7 = record { 0 = fourAt bytes 13 };
+      pay6 = record { 0 = fourAt bytes 17 };
+      pay5 = record { 0 = fourAt bytes 21 };
+      pay4 = record { 0 = fourAt bytes 25 };
+      pay3 = record { 0 = fourAt bytes 29 };
+      pay2 = record { 0 = fourAt bytes 33 };
+      pay1 = record { 0 = fourAt bytes 37 };
+      days = twoAt bytes 41;
+    }
+
 -- the bytes of a frame of each kind: the kind's own and its fields'; 0 for an unknown kind
 unfoldable pub frameLength : ℕ → ℕ
 frameLength kind =
@@ -73,13 +91,14 @@ frameLength kind =
     (cond (eqb kind 4) (1 + 4 * 4 + 3 * 2 + 1 + 2 + 2)
     (cond (eqb kind 5) (1 + 1 + 2 + 2 + 2)
     (cond (eqb kind 6) (1 + 1 + 4 + 2)
-    0)))))
+    (cond (eqb kind 8) (1 + 10 * 4 + 2)
+    0))))))
 
--- the bytes of the longest frame, the 04
+-- the bytes of the longest frame, the 08
 abbrev pub longestFrame : ℕ
-longestFrame = 28
+longestFrame = 43
 
--- "A frame is one of six kinds and carries its own fields"; "3, unknown kind"
+-- "A frame is one of six kinds and carries its own fields", with 08 of seven; "3, unknown kind"
 unfoldable pub frameOf : ℕ → List ℕ → Decoded
 frameOf kind bytes =
     cond (eqb kind 1) (Decoded.Frame (Frame.Member (memberIn bytes)))
@@ -88,7 +107,8 @@ frameOf kind bytes =
     (cond (eqb kind 4) (Decoded.Frame (Frame.FinalPay (finalPayIn bytes)))
     (cond (eqb kind 5) (Decoded.Frame (Frame.Factor (factorIn bytes)))
     (cond (eqb kind 6) (Decoded.Frame (Frame.Debit (debitIn bytes)))
-    (Decoded.Refused 3))))))
+    (cond (eqb kind 8) (Decoded.Frame (Frame.TenPays (tenPaysIn bytes)))
+    (Decoded.Refused 3)))))))
 
 -- "3, unknown kind or wrong length"
 unfoldable pub decoded : List ℕ → Decoded

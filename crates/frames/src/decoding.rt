@@ -6,6 +6,7 @@ use super::Frame;
 use super::LONGEST_FRAME;
 use super::Member;
 use super::Year;
+use averages::TenPays;
 use benefits::FinalPay;
 use calendar::Date;
 use fields::four_at;
@@ -18,7 +19,7 @@ use posts::post_at;
 ghost use mathlib.Core.Path.{_≡_};
 ghost use Prim.Native.Nat.{_+_, _≤_};
 ghost use lib.ListN.{length};
-ghost use Rattle.frames.specs.Frames.{dateAt, memberIn, yearIn, finalPayIn, factorIn, debitIn, frameLength, frameOf, decoded, refusalIn};
+ghost use Rattle.frames.specs.Frames.{dateAt, memberIn, yearIn, finalPayIn, factorIn, debitIn, tenPaysIn, frameLength, frameOf, decoded, refusalIn};
 
 // The bytes of an 03: its kind and the post.
 const POST_FRAME: usize = 1 + BYTES_OF_POST;
@@ -111,6 +112,26 @@ fn debit_in(bytes: &[u8]) -> Debit
     }
 }
 
+// The ten pays in the bytes of an 08.
+fn ten_pays_in(bytes: &[u8]) -> TenPays
+    requires { ⌜ length (now bytes) ≡ frameLength 8 ⌝ }
+    ensures { λ r. ⌜ r ≡ tenPaysIn (now (bytes .entry)) ⌝ }
+{
+    TenPays {
+        pay10: Pence(four_at(bytes, 1)),
+        pay9: Pence(four_at(bytes, 5)),
+        pay8: Pence(four_at(bytes, 9)),
+        pay7: Pence(four_at(bytes, 13)),
+        pay6: Pence(four_at(bytes, 17)),
+        pay5: Pence(four_at(bytes, 21)),
+        pay4: Pence(four_at(bytes, 25)),
+        pay3: Pence(four_at(bytes, 29)),
+        pay2: Pence(four_at(bytes, 33)),
+        pay1: Pence(four_at(bytes, 37)),
+        days: two_at(bytes, 41),
+    }
+}
+
 // The bytes of a frame of each kind, the kind's own among them; 0 for an unknown kind.
 fn frame_length(kind: u64) -> usize
     ensures { λ r. ⌜ r ≡ frameLength kind ⌝ }
@@ -119,9 +140,10 @@ fn frame_length(kind: u64) -> usize
         1 => 11,
         2 => 5,
         3 => POST_FRAME,
-        4 => LONGEST_FRAME,
+        4 => 28,
         5 => 8,
         6 => 8,
+        8 => LONGEST_FRAME,
         _ => 0,
     }
 }
@@ -138,6 +160,7 @@ fn frame_of(kind: u64, bytes: &[u8]) -> Decoded
         4 => Decoded::Frame(Frame::FinalPay(final_pay_in(bytes))),
         5 => Decoded::Frame(Frame::Factor(factor_in(bytes))),
         6 => Decoded::Frame(Frame::Debit(debit_in(bytes))),
+        8 => Decoded::Frame(Frame::TenPays(ten_pays_in(bytes))),
         _ => Decoded::Refused(3),
     }
 }

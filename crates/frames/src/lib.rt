@@ -1,4 +1,5 @@
-// The frames of a case: six kinds, each with its own fields.
+// The frames of a case: seven kinds, each with its own fields.
+use averages::TenPays;
 use benefits::FinalPay;
 use calendar::Date;
 use measures::Months;
@@ -15,10 +16,10 @@ pub use limits::factor_refusal;
 pub use limits::member_refusal;
 pub use limits::year_stands;
 
-// The bytes of the longest frame, the 04.
-pub const LONGEST_FRAME: usize = 28;
+// The bytes of the longest frame, the 08.
+pub const LONGEST_FRAME: usize = 43;
 
-// A member: birth and retirement, the section (0 none, 1 the 1995), the pension age in years.
+// A member: birth and retirement, the section (0 none, 1 the 1995, 2 the 2008), the pension age in years.
 pub struct Member {
     pub birth: Date,
     pub retirement: Date,
@@ -32,7 +33,7 @@ pub struct Year {
     pub revaluation: u64,
 }
 
-// The factors of a scheme (0 the 2015, 1 the 1995) for so many months early, in thousandths.
+// The factors of a scheme (0 the 2015, 1 the member's section) for so many months early, in thousandths.
 pub struct Factor {
     pub scheme: u64,
     pub months: Months,
@@ -47,7 +48,7 @@ pub struct Debit {
     pub factor: u64,
 }
 
-// A frame, one of the six kinds.
+// A frame, one of the seven kinds.
 pub enum Frame {
     Member(Member),
     Year(Year),
@@ -55,6 +56,7 @@ pub enum Frame {
     FinalPay(FinalPay),
     Factor(Factor),
     Debit(Debit),
+    TenPays(TenPays),
 }
 
 // What bytes decode to: a frame, or the number of their refusal.

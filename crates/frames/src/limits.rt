@@ -8,7 +8,7 @@ use benefits::HIGHEST_POT;
 use benefits::HIGHEST_REVALUATION;
 use calendar::dates_refusal;
 ghost use mathlib.Core.Path.{_≡_};
-ghost use Rattle.frames.specs.Limits.{memberRefusal, yearStands, schemeStands, factorRefusal, debitRefusal};
+ghost use Rattle.frames.specs.Limits.{memberRefusal, yearStands, schemeStands, hasLumpSum, factorRefusal, debitRefusal};
 
 // 5 where a date, the pension age or the section of a member is out of its range; else 0.
 pub fn member_refusal(m: Member) -> u64
@@ -18,7 +18,7 @@ pub fn member_refusal(m: Member) -> u64
     if refusal != 0 {
         return refusal;
     }
-    if 1 < m.section {
+    if 2 < m.section {
         return 5;
     }
     0
@@ -40,13 +40,23 @@ pub fn year_stands(y: Year) -> bool
     true
 }
 
-// Whether a scheme is the 2015, or the 1995 of a member with that section.
+// Whether a scheme is the 2015, or 1 for a member with a section.
 fn scheme_stands(scheme: u64, section: u64) -> bool
     ensures { λ r. ⌜ r ≡ schemeStands scheme section ⌝ }
 {
     if scheme == 0 {
         return true;
     }
+    if scheme != 1 {
+        return false;
+    }
+    section != 0
+}
+
+// Whether a lump sum goes with a scheme: with scheme 1 in the 1995 Section.
+fn has_lump_sum(scheme: u64, section: u64) -> bool
+    ensures { λ r. ⌜ r ≡ hasLumpSum scheme section ⌝ }
+{
     if scheme != 1 {
         return false;
     }
@@ -72,7 +82,7 @@ pub fn factor_refusal(f: Factor, section: u64) -> u64
     if HIGHEST_EARLY_FACTOR < f.lump {
         return 10;
     }
-    if f.scheme != 0 {
+    if has_lump_sum(f.scheme, section) {
         return 0;
     }
     if f.lump != 0 {

@@ -1,29 +1,32 @@
 -- Demand 3 over the frames kept: no rival working gives more than the amounts of the steps.
-use Prim.Native.Nat.{ℕ, _≤_}
+use Prim.Native.Nat.{ℕ, _+_, _≤_}
 use mathlib.Core.Path.{_≡_, refl, _∙_, ap, ap₂, subst}
 use mathlib.Core.Bool.{Bool, true, false, _&&_, cond}
-use mathlib.Core.List.{List, [], _∷_}
+use mathlib.Core.List.{List, [], _∷_, map}
 use mathlib.Core.Option.{Option, none, some}
 use native.Mathlib.Nat.{le-refl}
 use native.Mathlib.Omega.{arith}
-use lib.Dec.{leb, eqb}
+use lib.Dec.{leb, ltb, eqb}
+use lib.ListN.{length}
 use lib.IntN.{ℤ, pos, _+ℤ_, _-ℤ_}
 use lib.Signed.{_≤ℤ_}
 use borrow.Author.Tests.{leb-true, eqb-true}
 use Rattle.measures.specs.Lists.{All}
 use Rattle.measures.specs.Refusals.{unless, firstRefusal}
-use Rattle.measures.proofs.Tests.{clash, passed, neither, and-left, and-right}
+use Rattle.measures.proofs.Tests.{clash, both-sides, passed, neither, and-left, and-right}
 use Rattle.measures.proofs.Integers.{less, less-mono, less-both}
 use Rattle.posts.specs.Posts.{HasMinutes, aggregatePay}
 use Rattle.posts.proofs.Aggregate.{optimal, parts-allowed}
-use Rattle.benefits.specs.declared.FinalPay.{FinalPay}
-use Rattle.benefits.specs.Steps.{finalPay, finalYear, reduced, lumpDebit}
+use Rattle.benefits.specs.Steps.{finalPay, finalYear, reduced}
 use Rattle.benefits.proofs.Monotone.{afterYear-mono, sectionPension-mono, lumpSum-mono, reduced-mono}
 use Rattle.benefits.proofs.Highest.{final-highest, final-latest}
+use Rattle.averages.specs.declared.Three.{Three}
+use Rattle.averages.specs.Averages.{threes, three, better, bestOf, bestThree, average, averagePay}
+use Rattle.averages.proofs.Best.{AllAtMost, average-most, pension2008-mono}
 use Rattle.rules.specs.declared.Amounts.{Amounts}
 use Rattle.rules.specs.declared.Outcome.{Outcome}
-use Rattle.rules.specs.Rules.{WorkedYear, Frames, begun, hasSection}
-use Rattle.rules.specs.Working.{early2015, early1995, pensionFrom, pensionOf, ownAggregates, ownParts, rivalAggregates, candidates, ownPay, pension1995, pensionFactor, lumpFactor, reducedIf, factor2015, factor1995, gross2015, gross1995, grossLumpSum, debit2015, debit1995, payThere, factorsThere, debitsFit, closingOf, amountsOf, workedUnless, answerOf}
+use Rattle.rules.specs.Rules.{WorkedYear, SectionPay, of1995, of2008, Frames, begun, hasSection, inSection}
+use Rattle.rules.specs.Working.{early2015, early1995, pensionFrom, pensionOf, ownAggregates, ownParts, rivalAggregates, candidates, ownPay, pension1995, pensionFactor, lumpFactor, reducedIf, factor2015, factor1995, gross2015, gross1995, grossLumpSum, debit2015, debit1995, debitLumpSum, payThere, factorsThere, debitsFit, closingOf, amountsOf, workedUnless, answerOf}
 use Rattle.rules.specs.Rivals.{Choice, RivalParts, noYears, year, Picked, none as noPick, here, later, Allowed, net2015, net1995, netLumpSum, Given, AtMost, LargestOf}
 
 -- every post of a year has contracted minutes
@@ -52,23 +55,29 @@ reducedIf-mono months factor {a} {b} g = by (eqb months 0)
     by true = g
     by false = reduced-mono factor g
 
-pension1995-mono : (o : Option FinalPay) {a b : ℕ} → a ≤ b → pension1995 o a ≤ pension1995 o b
+pension1995-mono : (o : Option SectionPay) {a b : ℕ} → a ≤ b → pension1995 o a ≤ pension1995 o b
 unfolding pension1995
 pension1995-mono none g = omega arith
-pension1995-mono (some f) g = sectionPension-mono (f .days) g
+pension1995-mono (some (of1995 f)) g = sectionPension-mono (f .days) g
+pension1995-mono (some (of2008 t)) g = pension2008-mono (t .days) g
 
 if-mono : (t : Bool) {a b : ℕ} → a ≤ b → cond t a 0 ≤ cond t b 0
 if-mono true g = g
 if-mono false g = omega arith
 
--- ---- no candidate is above the highest pay
+-- ---- no candidate is above our own pay
 
-pay-most : (o : Option FinalPay) (pay : ℕ) → Picked (candidates o) pay → pay ≤ ownPay o
+-- one of a list is at most what all of it is
+picked-most : (most : ℕ) {pays : List ℕ} {pay : ℕ} → Picked pays pay → AllAtMost most pays → pay ≤ most
+picked-most most noPick a = omega arith
+picked-most most here a = a .0
+picked-most most (later p) a = picked-most most p (a .1)
+
+pay-most : (o : Option SectionPay) (pay : ℕ) → Picked (candidates o) pay → pay ≤ ownPay o
 unfolding ownPay
-pay-most none pay noPick = omega arith
-pay-most (some f) pay here = final-highest f 3
-pay-most (some f) pay (later here) = final-highest f 2
-pay-most (some f) pay (later (later here)) = final-highest f 1
+pay-most none pay p = picked-most 0 p tt
+pay-most (some (of1995 f)) pay p = picked-most (finalPay f) p (final-highest f 3, (final-highest f 2, (final-highest f 1, tt)))
+pay-most (some (of2008 t)) pay p = picked-most (averagePay t) p (average-most t)
 
 -- ---- our own choice is allowed
 
@@ -76,12 +85,21 @@ own-parts : (ys : List WorkedYear) → All WorkedPosts ys → RivalParts ys (own
 own-parts [] w = noYears
 own-parts (y ∷ ys) w = year (parts-allowed (y .posts) (w .0)) (own-parts ys (w .1))
 
-own-pay : (o : Option FinalPay) → Picked (candidates o) (ownPay o)
-unfolding ownPay
+-- the average of the best three years is one of the averages
+best-picked : (s : ℕ) (ss : List ℕ) → Picked (map average (s ∷ ss)) (average (bestOf (s ∷ ss) .sum .0))
+unfolding bestOf better
+best-picked s [] = here
+best-picked s (r ∷ more) =
+    both-sides (λ (best : Three). Picked (map average (s ∷ r ∷ more)) (average (best .sum .0))) (ltb (bestOf (r ∷ more) .sum .0) s)
+    (three s (length (r ∷ more) + 1)) (bestOf (r ∷ more)) here (later (best-picked r more))
+
+own-pay : (o : Option SectionPay) → Picked (candidates o) (ownPay o)
+unfolding ownPay averagePay bestThree threes
 own-pay none = noPick
-own-pay (some f) = subst (Picked (candidates (some f))) (final-latest f .highest) (by (eqb (finalYear f) 3) (eqb (finalYear f) 2))
+own-pay (some (of2008 t)) = best-picked _ _
+own-pay (some (of1995 f)) = subst (Picked (candidates (some (of1995 f)))) (final-latest f .highest) (by (eqb (finalYear f) 3) (eqb (finalYear f) 2))
   where
-    by : (a b : Bool) → Picked (candidates (some f)) (cond a (f .pay3 .0) (cond b (f .pay2 .0) (f .pay1 .0)))
+    by : (a b : Bool) → Picked (candidates (some (of1995 f))) (cond a (f .pay3 .0) (cond b (f .pay2 .0) (f .pay1 .0)))
     by true b = here
     by false true = later here
     by false false = later (later here)
@@ -90,8 +108,8 @@ own-pay (some f) = subst (Picked (candidates (some f))) (final-latest f .highest
 
 record Covered (k : Frames) : Type 0 where
   of2015 : debit2015 k ≤ gross2015 k (ownAggregates (k .years))
-  of1995 : debit1995 k ≤ gross1995 k (ownPay (k .finalPay))
-  ofLumpSum : lumpDebit (debit1995 k) ≤ grossLumpSum k (ownPay (k .finalPay))
+  of1995 : debit1995 k ≤ gross1995 k (ownPay (k .pay))
+  ofLumpSum : debitLumpSum k ≤ grossLumpSum k (ownPay (k .pay))
 
 covered : (k : Frames) → closingOf (begun k) ≡ 0 → Covered k
 unfolding closingOf debitsFit
@@ -99,8 +117,8 @@ covered k e =
     let rest = neither (unless (payThere k) 12) (firstRefusal (unless (factorsThere k) 13) (unless (debitsFit k) 14)) e .1 in
     let t = passed (debitsFit k) 14 (omega arith) (neither (unless (factorsThere k) 13) (unless (debitsFit k) 14) rest .1) in
     let one = leb (debit2015 k) (gross2015 k (ownAggregates (k .years))) in
-    let two = leb (debit1995 k) (gross1995 k (ownPay (k .finalPay))) in
-    let three = leb (lumpDebit (debit1995 k)) (grossLumpSum k (ownPay (k .finalPay))) in
+    let two = leb (debit1995 k) (gross1995 k (ownPay (k .pay))) in
+    let three = leb (debitLumpSum k) (grossLumpSum k (ownPay (k .pay))) in
     record {
       of2015 = leb-true _ _ (and-left one two (and-left (one && two) three t));
       of1995 = leb-true _ _ (and-right one two (and-left (one && two) three t));
@@ -126,7 +144,7 @@ module _ (k : Frames) (w : All WorkedPosts (k .years)) (f : Covered k) where
   unfolding amountsOf net2015 net1995 netLumpSum
   gives =
       record {
-        allowed = record { parts = own-parts (k .years) w; pay = own-pay (k .finalPay) };
+        allowed = record { parts = own-parts (k .years) w; pay = own-pay (k .pay) };
         pension2015 = ap (λ (l : List ℕ). pos (gross2015 k l) -ℤ pos (debit2015 k)) (own-aggregates (k .years)) ∙ less _ _ (f .of2015);
         pension1995 = less _ _ (f .of1995);
         lumpSum = less _ _ (f .ofLumpSum);
@@ -141,15 +159,15 @@ module _ (k : Frames) (w : All WorkedPosts (k .years)) (f : Covered k) where
             subst (λ (z : ℤ). (net2015 k choice +ℤ net1995 k choice) ≤ℤ z) (ap₂ _+ℤ_ (less _ _ (f .of2015)) (gives .pension1995))
             (less-both _ _ (debit2015 k) _ _ (debit1995 k)
             (reducedIf-mono (early2015 (k .member)) (pensionFactor (factor2015 k)) (pension-mono (k .years) (choice .parts) w (r .parts) (le-refl 0)))
-            (if-mono (hasSection k) (reducedIf-mono (early1995 (k .member)) (pensionFactor (factor1995 k)) (pension1995-mono (k .finalPay) pays))));
+            (if-mono (hasSection k) (reducedIf-mono (early1995 (k .member)) (pensionFactor (factor1995 k)) (pension1995-mono (k .pay) pays))));
         lumpSum =
             subst (λ (z : ℤ). netLumpSum k choice ≤ℤ z) (gives .lumpSum)
-            (less-mono _ _ (lumpDebit (debit1995 k))
-            (if-mono (hasSection k) (reducedIf-mono (early1995 (k .member)) (lumpFactor (factor1995 k)) (lumpSum-mono (pension1995-mono (k .finalPay) pays)))));
+            (less-mono _ _ (debitLumpSum k)
+            (if-mono (inSection 1 k) (reducedIf-mono (early1995 (k .member)) (lumpFactor (factor1995 k)) (lumpSum-mono (pension1995-mono (k .pay) pays)))));
       }
     where
-      pays : choice .pay ≤ ownPay (k .finalPay)
-      pays = pay-most (k .finalPay) (choice .pay) (r .pay)
+      pays : choice .pay ≤ ownPay (k .pay)
+      pays = pay-most (k .pay) (choice .pay) (r .pay)
 
 pub largest-kept : (k : Frames) (a : Amounts) → All WorkedPosts (k .years) → answerOf (begun k) ≡ Outcome.Worked a → LargestOf k a
 largest-kept k a w e =

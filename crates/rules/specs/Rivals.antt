@@ -5,12 +5,11 @@ use mathlib.Core.List.{List, [], _∷_}
 use lib.IntN.{ℤ, pos, _+ℤ_, _-ℤ_}
 use lib.Signed.{_≤ℤ_}
 use Rattle.posts.specs.Posts.{Rival}
-use Rattle.benefits.specs.Steps.{lumpDebit}
 use Rattle.rules.specs.declared.Amounts.{Amounts}
 use Rattle.rules.specs.Rules.{WorkedYear, Frames, Kept, nothing, begun}
-use Rattle.rules.specs.Working.{ownParts, rivalAggregates, ownPay, candidates, gross2015, gross1995, grossLumpSum, debit2015, debit1995, chargeOf}
+use Rattle.rules.specs.Working.{ownParts, rivalAggregates, ownPay, candidates, gross2015, gross1995, grossLumpSum, debit2015, debit1995, debitLumpSum, chargeOf}
 
--- what a working picks: the parts of each year's posts, and the final pay
+-- what a working picks: the parts of each year's posts, and the pay of the section
 pub record Choice : Type 0 where
   pub parts : List (List ℕ)
   pub pay : ℕ
@@ -29,23 +28,23 @@ pub data Picked : List ℕ → ℕ → Type 0 where
 -- a working that the paper lets a rival pick
 pub record Allowed (k : Frames) (choice : Choice) : Type 0 where
   pub parts : RivalParts (k .years) (choice .parts)
-  pub pay : Picked (candidates (k .finalPay)) (choice .pay)
+  pub pay : Picked (candidates (k .pay)) (choice .pay)
 
 -- our own working
 abbrev pub ownChoice : Frames → Choice
-ownChoice k = record { parts = ownParts (k .years); pay = ownPay (k .finalPay) }
+ownChoice k = record { parts = ownParts (k .years); pay = ownPay (k .pay) }
 
 -- Its net 2015 pension: "Then it goes through the same steps with its own parts and final pay, [..] the factors and debits the same; a net below zero stays so."
 unfoldable pub net2015 : Frames → Choice → ℤ
 net2015 k choice = pos (gross2015 k (rivalAggregates (k .years) (choice .parts))) -ℤ pos (debit2015 k)
 
--- its net 1995 pension
+-- its net pension of the section, in the 1995 place
 unfoldable pub net1995 : Frames → Choice → ℤ
 net1995 k choice = pos (gross1995 k (choice .pay)) -ℤ pos (debit1995 k)
 
 -- its net lump sum
 unfoldable pub netLumpSum : Frames → Choice → ℤ
-netLumpSum k choice = pos (grossLumpSum k (choice .pay)) -ℤ pos (lumpDebit (debit1995 k))
+netLumpSum k choice = pos (grossLumpSum k (choice .pay)) -ℤ pos (debitLumpSum k)
 
 -- "the amounts the case gives, which are those of the steps above": by our own working, which is itself allowed
 pub record Given (k : Frames) (a : Amounts) : Type 0 where
@@ -53,7 +52,7 @@ pub record Given (k : Frames) (a : Amounts) : Type 0 where
   pub pension2015 : net2015 k (ownChoice k) ≡ pos (a .«net_2015» .0)
   pub pension1995 : net1995 k (ownChoice k) ≡ pos (a .«net_1995» .0)
   pub lumpSum : netLumpSum k (ownChoice k) ≡ pos (a .«net_lump_sum» .0)
-  pub charge : a .charge .0 ≡ chargeOf (k .finalPay)
+  pub charge : a .charge .0 ≡ chargeOf (k .pay)
 
 -- "Its net 2015 plus net 1995 pension is at most the same sum of the amounts the case gives, [..] and its net lump sum at most the one given."
 pub record NetsAtMost (of2015 of1995 ofLumpSum : ℤ) (a : Amounts) : Type 0 where

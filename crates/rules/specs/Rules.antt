@@ -11,6 +11,8 @@ use Rattle.posts.specs.declared.Post.{Post}
 use Rattle.posts.specs.Refusals.{postRefusal}
 use Rattle.benefits.specs.declared.FinalPay.{FinalPay}
 use Rattle.benefits.specs.Steps.{finalPayRefusal}
+use Rattle.averages.specs.declared.TenPays.{TenPays}
+use Rattle.averages.specs.Averages.{tenPaysRefusal}
 use Rattle.frames.specs.declared.Member.{Member}
 use Rattle.frames.specs.declared.Year.{Year}
 use Rattle.frames.specs.declared.Factor.{Factor}
@@ -18,7 +20,7 @@ use Rattle.frames.specs.declared.Debit.{Debit}
 use Rattle.frames.specs.declared.Frame.{Frame}
 use Rattle.frames.specs.declared.Decoded.{Decoded}
 use Rattle.frames.specs.Frames.{decoded}
-use Rattle.frames.specs.Limits.{memberRefusal, yearStands, factorRefusal, debitRefusal}
+use Rattle.frames.specs.Limits.{memberRefusal, yearStands, isSection, factorRefusal, debitRefusal}
 
 -- ---- the frames kept
 
@@ -27,11 +29,16 @@ pub record WorkedYear : Type 0 where
   pub year : Year
   pub posts : List Post
 
+-- the pay frame of the member's section: an 04, or "a frame 08 in the place of 04"
+pub data SectionPay : Type 0 where
+  of1995 : FinalPay → SectionPay
+  of2008 : TenPays → SectionPay
+
 -- an 01 and the frames kept after it, those of each kind in the order in which they came
 pub record Frames : Type 0 where
   pub member : Member
   pub years : List WorkedYear
-  pub finalPay : Option FinalPay
+  pub pay : Option SectionPay
   pub factors : List Factor
   pub debits : List Debit
 
@@ -59,23 +66,29 @@ lastOf (x ∷ []) = some x
 lastOf (x ∷ y ∷ xs) = lastOf (y ∷ xs)
 
 -- ---- 4, kind out of order: "Order: one 01; any 02, each followed by its 03s; at most one 04, only with section 1; 05s; 06s."
+-- "a frame 08 in the place of 04"; "4 is given when 04 or 08 stands with another section"
 
--- no 06, 05 or 04 is kept yet
+-- no 06, 05, 04 or 08 is kept yet
 unfoldable pub beforePay : Frames → Bool
-beforePay k = not (nonEmpty (k .debits)) && not (nonEmpty (k .factors)) && not (given (k .finalPay))
+beforePay k = not (nonEmpty (k .debits)) && not (nonEmpty (k .factors)) && not (given (k .pay))
 
--- "section 1 (0 none, 1 the 1995)"
+-- the member has a section
 unfoldable pub hasSection : Frames → Bool
-hasSection k = eqb (k .member .section) 1
+hasSection k = isSection (k .member .section)
+
+-- the member has this section and no other
+unfoldable pub inSection : ℕ → Frames → Bool
+inSection section k = eqb (k .member .section) section
 
 -- whether a frame stands in its place after those kept
 unfoldable pub inOrder : Frames → Frame → Bool
 inOrder k (Frame.Member m) = false
 inOrder k (Frame.Year y) = beforePay k
 inOrder k (Frame.Post x) = beforePay k && nonEmpty (k .years)
-inOrder k (Frame.FinalPay f) = beforePay k && hasSection k
+inOrder k (Frame.FinalPay f) = beforePay k && inSection 1 k
 inOrder k (Frame.Factor f) = not (nonEmpty (k .debits))
 inOrder k (Frame.Debit d) = true
+inOrder k (Frame.TenPays t) = beforePay k && inSection 2 k
 
 -- ---- the fields of a frame, after the frames kept
 
@@ -121,6 +134,7 @@ fieldsRefusal k (Frame.Factor f) =
     firstRefusal (factorRefusal f (k .member .section)) (unless (afterFactor (lastOf (k .factors)) f) 10)
 fieldsRefusal k (Frame.Debit d) =
     firstRefusal (debitRefusal d (k .member .section)) (unless (afterDebit (lastOf (k .debits)) d) 11)
+fieldsRefusal k (Frame.TenPays t) = tenPaysRefusal t
 
 -- ---- the refusal of a frame
 
@@ -132,25 +146,34 @@ refusalOf nothing (Frame.Post x) = 4
 refusalOf nothing (Frame.FinalPay f) = 4
 refusalOf nothing (Frame.Factor f) = 4
 refusalOf nothing (Frame.Debit d) = 4
+refusalOf nothing (Frame.TenPays t) = 4
 refusalOf (begun k) f = firstRefusal (unless (inOrder k f) 4) (fieldsRefusal k f)
 
 -- ---- a frame without refusal joins those kept
 
 -- the frames kept with other years
 abbrev pub withYears : Frames → List WorkedYear → Frames
-withYears k years = record { member = k .member; years = years; finalPay = k .finalPay; factors = k .factors; debits = k .debits }
+withYears k years = record { member = k .member; years = years; pay = k .pay; factors = k .factors; debits = k .debits }
+
+-- with the pay frame of the section
+abbrev pub withPay : Frames → SectionPay → Frames
+withPay k p = record { member = k .member; years = k .years; pay = some p; factors = k .factors; debits = k .debits }
 
 -- with a final pay
 abbrev pub withFinalPay : Frames → FinalPay → Frames
-withFinalPay k f = record { member = k .member; years = k .years; finalPay = some f; factors = k .factors; debits = k .debits }
+withFinalPay k f = withPay k (of1995 f)
+
+-- with ten pays
+abbrev pub withTenPays : Frames → TenPays → Frames
+withTenPays k t = withPay k (of2008 t)
 
 -- with other factors
 abbrev pub withFactors : Frames → List Factor → Frames
-withFactors k factors = record { member = k .member; years = k .years; finalPay = k .finalPay; factors = factors; debits = k .debits }
+withFactors k factors = record { member = k .member; years = k .years; pay = k .pay; factors = factors; debits = k .debits }
 
 -- with other debits
 abbrev pub withDebits : Frames → List Debit → Frames
-withDebits k debits = record { member = k .member; years = k .years; finalPay = k .finalPay; factors = k .factors; debits = debits }
+withDebits k debits = record { member = k .member; years = k .years; pay = k .pay; factors = k .factors; debits = debits }
 
 -- an 02 without 03s yet
 abbrev pub newYear : Year → WorkedYear
@@ -164,18 +187,20 @@ addPost (y ∷ z ∷ ys) x = y ∷ addPost (z ∷ ys) x
 
 -- the frames kept with one more; before the 01 nothing is kept
 unfoldable pub keep : Kept → Frame → Kept
-keep nothing (Frame.Member m) = begun (record { member = m; years = []; finalPay = none; factors = []; debits = [] })
+keep nothing (Frame.Member m) = begun (record { member = m; years = []; pay = none; factors = []; debits = [] })
 keep nothing (Frame.Year y) = nothing
 keep nothing (Frame.Post x) = nothing
 keep nothing (Frame.FinalPay f) = nothing
 keep nothing (Frame.Factor f) = nothing
 keep nothing (Frame.Debit d) = nothing
+keep nothing (Frame.TenPays t) = nothing
 keep (begun k) (Frame.Member m) = begun k
 keep (begun k) (Frame.Year y) = begun (withYears k (k .years ++ newYear y ∷ []))
 keep (begun k) (Frame.Post x) = begun (withYears k (addPost (k .years) x))
 keep (begun k) (Frame.FinalPay f) = begun (withFinalPay k f)
 keep (begun k) (Frame.Factor f) = begun (withFactors k (k .factors ++ f ∷ []))
 keep (begun k) (Frame.Debit d) = begun (withDebits k (k .debits ++ d ∷ []))
+keep (begun k) (Frame.TenPays t) = begun (withTenPays k t)
 
 -- ---- frames as they are offered
 

@@ -8,14 +8,14 @@ use lib.IntN.{ℤ, pos, negsuc}
 use Rattle.measures.specs.Refusals.{unless, firstRefusal}
 use Rattle.calendar.specs.Dates.{monthsEarly}
 use Rattle.posts.specs.Posts.{aggregate, aggregatePay, parts}
-use Rattle.benefits.specs.declared.FinalPay.{FinalPay}
 use Rattle.benefits.specs.Steps.{afterYear, finalPay, sectionPension, lumpSum, reduced, pensionDebit, lumpDebit, charge}
+use Rattle.averages.specs.Averages.{averagePay, averages, pension2008}
 use Rattle.frames.specs.declared.Member.{Member}
 use Rattle.frames.specs.declared.Factor.{Factor}
 use Rattle.frames.specs.declared.Debit.{Debit}
 use Rattle.rules.specs.declared.Amounts.{Amounts}
 use Rattle.rules.specs.declared.Outcome.{Outcome}
-use Rattle.rules.specs.Rules.{WorkedYear, Frames, Kept, nothing, begun, given, hasSection}
+use Rattle.rules.specs.Rules.{WorkedYear, SectionPay, of1995, of2008, Frames, Kept, nothing, begun, given, hasSection, inSection}
 
 -- ---- Months early
 
@@ -28,17 +28,17 @@ ifPositive (negsuc months) = 0
 unfoldable pub early : Member → ℕ → ℕ
 early m pensionAge = ifPositive (monthsEarly (m .birth) (m .retirement) pensionAge)
 
--- "60 for the 1995 Section (public scheme rule)"
-abbrev pub sectionPensionAge : ℕ
-sectionPensionAge = 60
+-- "60 for the 1995 Section (public scheme rule)"; of the 2008 Section "Pension age is 65"; 0 stands for none, without a section
+abbrev pub sectionPensionAge : ℕ → ℕ
+sectionPensionAge section = cond (eqb section 1) 60 (cond (eqb section 2) 65 0)
 
 -- "Pension age is the member's for the 2015 Scheme"
 abbrev pub early2015 : Member → ℕ
 early2015 m = early m (m .«pension_age»)
 
--- "60 for the 1995 Section"
+-- at that of the member's section
 abbrev pub early1995 : Member → ℕ
-early1995 m = early m sectionPensionAge
+early1995 m = early m (sectionPensionAge (m .section))
 
 -- ---- Years, with the aggregate of each
 
@@ -68,22 +68,27 @@ rivalAggregates [] qs = []
 rivalAggregates (y ∷ ys) [] = []
 rivalAggregates (y ∷ ys) (q ∷ qs) = aggregate (y .posts) q ∷ rivalAggregates ys qs
 
--- ---- Final pay
+-- ---- The pay of the section: final pay, or the average of ten pays
 
--- "any of years 3 to 1 for final pay; without a section there is none to pick"
-abbrev pub candidates : Option FinalPay → List ℕ
+-- "any of years 3 to 1 for final pay; without a section there is none to pick";
+-- "The largest-benefit statement ranges over which three consecutive years are taken."
+abbrev pub candidates : Option SectionPay → List ℕ
 candidates none = []
-candidates (some f) = f .pay3 .0 ∷ f .pay2 .0 ∷ f .pay1 .0 ∷ []
+candidates (some (of1995 f)) = f .pay3 .0 ∷ f .pay2 .0 ∷ f .pay1 .0 ∷ []
+candidates (some (of2008 t)) = averages t
 
--- ours: "the highest of years 3 to 1"
-unfoldable pub ownPay : Option FinalPay → ℕ
+-- ours: "the highest of years 3 to 1"; "the rounded average of the best three consecutive years among ten given"
+unfoldable pub ownPay : Option SectionPay → ℕ
 ownPay none = 0
-ownPay (some f) = finalPay f
+ownPay (some (of1995 f)) = finalPay f
+ownPay (some (of2008 t)) = averagePay t
 
--- "The 1995 pension is rounded(final pay × service days/29,200)"
-unfoldable pub pension1995 : Option FinalPay → ℕ → ℕ
+-- "The 1995 pension is rounded(final pay × service days/29,200)"; of the 2008 Section "rounded(pay × days/21,900)",
+-- "its net is given in the 1995 place"
+unfoldable pub pension1995 : Option SectionPay → ℕ → ℕ
 pension1995 none pay = 0
-pension1995 (some f) pay = sectionPension pay (f .days)
+pension1995 (some (of1995 f)) pay = sectionPension pay (f .days)
+pension1995 (some (of2008 t)) pay = pension2008 pay (t .days)
 
 -- ---- Reduction
 
@@ -119,7 +124,7 @@ reducedIf months factor amount = cond (eqb months 0) amount (reduced amount fact
 abbrev pub factor2015 : Frames → Option Factor
 factor2015 k = factorFor 0 (early2015 (k .member)) (k .factors)
 
--- for the 1995 Section
+-- for scheme 1: "Scheme 1 in factors and debits then means this section"
 abbrev pub factor1995 : Frames → Option Factor
 factor1995 k = factorFor 1 (early1995 (k .member)) (k .factors)
 
@@ -127,15 +132,15 @@ factor1995 k = factorFor 1 (early1995 (k .member)) (k .factors)
 unfoldable pub gross2015 : Frames → List ℕ → ℕ
 gross2015 k aggregates = reducedIf (early2015 (k .member)) (pensionFactor (factor2015 k)) (pensionOf (k .years) aggregates)
 
--- the 1995 pension before its debit, of any final pay; "without a section [..] the 1995 nets are 0"
+-- the section's pension before its debit, of any pay; "without a section [..] the 1995 nets are 0"
 unfoldable pub gross1995 : Frames → ℕ → ℕ
 gross1995 k pay =
-    cond (hasSection k) (reducedIf (early1995 (k .member)) (pensionFactor (factor1995 k)) (pension1995 (k .finalPay) pay)) 0
+    cond (hasSection k) (reducedIf (early1995 (k .member)) (pensionFactor (factor1995 k)) (pension1995 (k .pay) pay)) 0
 
--- the lump sum before its debit
+-- the lump sum before its debit; in the 2008 Section "there is no lump sum"
 unfoldable pub grossLumpSum : Frames → ℕ → ℕ
 grossLumpSum k pay =
-    cond (hasSection k) (reducedIf (early1995 (k .member)) (lumpFactor (factor1995 k)) (lumpSum (pension1995 (k .finalPay) pay))) 0
+    cond (inSection 1 k) (reducedIf (early1995 (k .member)) (lumpFactor (factor1995 k)) (lumpSum (pension1995 (k .pay) pay))) 0
 
 -- ---- Debit
 
@@ -153,22 +158,27 @@ debitOf (some d) = pensionDebit (d .pot .0) (d .factor)
 unfoldable pub debit2015 : Frames → ℕ
 debit2015 k = debitOf (debitFor 0 (k .debits))
 
--- the debit of the 1995 pension; without a section "the 1995 nets are 0"
+-- the debit of the section's pension; without a section "the 1995 nets are 0"
 unfoldable pub debit1995 : Frames → ℕ
 debit1995 k = cond (hasSection k) (debitOf (debitFor 1 (k .debits))) 0
 
+-- "lump debit in the 1995 Section = 3 times it"; in the 2008 Section "the debit touches pension only"
+unfoldable pub debitLumpSum : Frames → ℕ
+debitLumpSum k = cond (inSection 1 k) (lumpDebit (debit1995 k)) 0
+
 -- ---- Charge
 
--- the employer's charge, 0 without an 04
-unfoldable pub chargeOf : Option FinalPay → ℕ
+-- the employer's charge, 0 without an 04; in the 2008 Section "no charge arises"
+unfoldable pub chargeOf : Option SectionPay → ℕ
 chargeOf none = 0
-chargeOf (some f) = charge f
+chargeOf (some (of1995 f)) = charge f
+chargeOf (some (of2008 t)) = 0
 
 -- ---- Closing
 
--- "12, section 1 without 04"
+-- "12, section 1 without 04"; "12 when section 2 has no 08": 4 lets no other section's frame be kept
 unfoldable pub payThere : Frames → Bool
-payThere k = not (hasSection k) || given (k .finalPay)
+payThere k = not (hasSection k) || given (k .pay)
 
 -- "13, months early positive without that factor (even for a pension of 0)"
 abbrev pub factorThere : ℕ → Option Factor → Bool
@@ -184,8 +194,8 @@ factorsThere k =
 unfoldable pub debitsFit : Frames → Bool
 debitsFit k =
     leb (debit2015 k) (gross2015 k (ownAggregates (k .years)))
-    && leb (debit1995 k) (gross1995 k (ownPay (k .finalPay)))
-    && leb (lumpDebit (debit1995 k)) (grossLumpSum k (ownPay (k .finalPay)))
+    && leb (debit1995 k) (gross1995 k (ownPay (k .pay)))
+    && leb (debitLumpSum k) (grossLumpSum k (ownPay (k .pay)))
 
 -- "closing for 4 (no 01), 12, 13, 14": the refusal, 0 for none
 unfoldable pub closingOf : Kept → ℕ
@@ -199,9 +209,9 @@ unfoldable pub amountsOf : Frames → Amounts
 amountsOf k =
     record {
       «net_2015» = record { 0 = gross2015 k (ownAggregates (k .years)) - debit2015 k };
-      «net_1995» = record { 0 = gross1995 k (ownPay (k .finalPay)) - debit1995 k };
-      «net_lump_sum» = record { 0 = grossLumpSum k (ownPay (k .finalPay)) - lumpDebit (debit1995 k) };
-      charge = record { 0 = chargeOf (k .finalPay) };
+      «net_1995» = record { 0 = gross1995 k (ownPay (k .pay)) - debit1995 k };
+      «net_lump_sum» = record { 0 = grossLumpSum k (ownPay (k .pay)) - debitLumpSum k };
+      charge = record { 0 = chargeOf (k .pay) };
     }
 
 -- the worked case, or the refusal: "At the end, line 0"

@@ -1,4 +1,4 @@
-// Document 01's rules over the frames kept of one member, and what a case comes to.
+// The papers' rules over the frames kept of one member, and what a case comes to.
 use measures::Pence;
 
 // The amounts of a worked case.

@@ -12,8 +12,8 @@ use Rattle.benefits.specs.Steps.{revalued, accrued, afterYear, lumpDebit}
 use Rattle.frames.specs.Frames.{dateAt, memberIn, yearIn, frameLength, frameOf, decoded}
 use Rattle.frames.specs.Limits.{memberRefusal, yearStands}
 use Rattle.rules.specs.declared.Outcome.{Outcome}
-use Rattle.rules.specs.Rules.{lastOf, beforePay, hasSection, inOrder, isNext, yearRefusal, openPosts, fieldsRefusal, refusalOf, addPost, keep, refusalOfDecoded, keepDecoded}
-use Rattle.rules.specs.Working.{early, pensionFrom, pensionOf, ownPay, pension1995, factorFor, reducedIf, gross2015, gross1995, grossLumpSum, debitFor, debitOf, debit2015, debit1995, chargeOf, payThere, factorsThere, debitsFit, closingOf, amountsOf, workedUnless, answerOf}
+use Rattle.rules.specs.Rules.{lastOf, beforePay, hasSection, inSection, inOrder, isNext, yearRefusal, openPosts, fieldsRefusal, refusalOf, addPost, keep, refusalOfDecoded, keepDecoded}
+use Rattle.rules.specs.Working.{early, pensionFrom, pensionOf, ownPay, pension1995, factorFor, reducedIf, gross2015, gross1995, grossLumpSum, debitFor, debitOf, debit2015, debit1995, debitLumpSum, chargeOf, payThere, factorsThere, debitsFit, closingOf, amountsOf, workedUnless, answerOf}
 use Rattle.fields.specs.Digits.{digitOf}
 use Rattle.texts.specs.Text.{characterThen, linesOf, byteThen, bytesOf, lineBytes, decodedLine, framesOf, readFrom, workText}
 use Rattle.texts.specs.Printed.{characterOf, digitsOf, printedOf}
@@ -40,7 +40,7 @@ abbrev pub printedOutcome : Outcome
 printedOutcome = Outcome.Worked (record { «net_2015» = record { 0 = 66667 }; «net_1995» = record { 0 = 0 }; «net_lump_sum» = record { 0 = 0 }; charge = record { 0 = 0 } })
 
 pub printed-text : workText printedText ≡ printedOutcome
-unfolding rounded oneAt twoAt fourAt isLeap monthLength completingDay completedMonths monthsEarly dateStands isBefore datesRefusal aggregate aggregatePay postStands postRefusal postAt revalued accrued afterYear lumpDebit dateAt memberIn yearIn frameLength frameOf decoded memberRefusal yearStands lastOf beforePay hasSection inOrder isNext yearRefusal openPosts fieldsRefusal refusalOf addPost keep refusalOfDecoded keepDecoded early pensionFrom pensionOf ownPay pension1995 factorFor reducedIf gross2015 gross1995 grossLumpSum debitFor debitOf debit2015 debit1995 chargeOf payThere factorsThere debitsFit closingOf amountsOf workedUnless answerOf characterThen linesOf digitOf byteThen bytesOf lineBytes decodedLine framesOf readFrom workText
+unfolding rounded oneAt twoAt fourAt isLeap monthLength completingDay completedMonths monthsEarly dateStands isBefore datesRefusal aggregate aggregatePay postStands postRefusal postAt revalued accrued afterYear lumpDebit dateAt memberIn yearIn frameLength frameOf decoded memberRefusal yearStands lastOf beforePay hasSection inSection inOrder isNext yearRefusal openPosts fieldsRefusal refusalOf addPost keep refusalOfDecoded keepDecoded early pensionFrom pensionOf ownPay pension1995 factorFor reducedIf gross2015 gross1995 grossLumpSum debitFor debitOf debit2015 debit1995 debitLumpSum chargeOf payThere factorsThere debitsFit closingOf amountsOf workedUnless answerOf characterThen linesOf digitOf byteThen bytesOf lineBytes decodedLine framesOf readFrom workText
 printed-text = refl
 
 pub printed-line : printedOf printedOutcome ≡ printedLine

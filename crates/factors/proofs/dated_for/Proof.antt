@@ -2,15 +2,14 @@
 use Rattle.frames.proofs.Accepted.{member-good}
 use Rattle.factors.specs.Factors.{datedFor}
 use borrow.Author.Needs.{needs}
-use native.Mathlib.Omega.{arith}
 use Rattle.factors.proofs.dated_for.Statement.{statement}
 use Rattle.factors.proofs.dated_for.Tie as tie
 
 wanted-months-requires : tie.Need-wanted-months-requires
 wanted-months-requires c κs = let m = member-good (c .args .m) (c .pre) in (m .dates, m .age-from, m .age-to)
 
-wanted-months-requires-2 : tie.Need-wanted-months-requires-2
-wanted-months-requires-2 c κs = let m = member-good (c .before .args .m) (c .before .pre) in (m .dates, omega arith, omega arith)
+section-months-requires : tie.Need-section-months-requires
+section-months-requires c κs = search needs
 
 none-found-requires : tie.Need-none-found-requires
 none-found-requires c κs = search needs
@@ -22,14 +21,14 @@ returns : tie.Need-returns
 unfolding datedFor
 returns c =
     let w = c .before .before in
-    rw (← (w .before .wanted-months .ensures), ← (w .wanted-months2 .ensures), c .before .none-found .ensures, c .none-found2 .ensures)
+    rw (← (w .before .wanted-months .ensures), ← (w .section-months .ensures), c .before .none-found .ensures, c .none-found2 .ensures)
 
 pub dated-for-spec : {M : Type 1} → statement M
 dated-for-spec =
     tie.close
     (tie.spec
     wanted-months-requires
-    wanted-months-requires-2
+    section-months-requires
     none-found-requires
     none-found-requires-2
     returns)

@@ -25,7 +25,7 @@ earned-requires c κs = search needs
 reduced-requires : tie.Need-reduced-requires
 reduced-requires c κs =
     let b = c .before .before .before .before .pre in
-    (b .dated, subst AmountsBounds (sym (c .earned .ensures)) (earned-bounds _ _ _ (b .pay) (omega (arith, c .before .pension .ensures, b .years .now))))
+    (b .dated, subst AmountsBounds (sym (c .earned .ensures)) (earned-bounds _ (b .section) _ _ (omega (arith, c .before .pension .ensures, b .years .now))))
 
 charge-requires : tie.Need-charge-requires
 charge-requires c κs = search needs

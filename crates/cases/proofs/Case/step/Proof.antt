@@ -55,6 +55,12 @@ enum-known-frame-6 c = search needs
 take-debit-requires : tie.Need-take-debit-requires
 take-debit-requires c κs = search needs
 
+enum-known-frame-7 : tie.Need-enum-known-frame-7
+enum-known-frame-7 c = search needs
+
+take-ten-pays-requires : tie.Need-take-ten-pays-requires
+take-ten-pays-requires c κs = search needs
+
 returns-2 : tie.Need-returns-2
 returns-2 c = taken-in-order (c .before .before .before .before) (c .take-member .ensures) (c .before .before .frame .given .1)
 
@@ -72,6 +78,9 @@ returns-6 c = taken-in-order (c .before .before .before .before) (c .take-factor
 
 returns-7 : tie.Need-returns-7
 returns-7 c = taken-in-order (c .before .before .before .before) (c .take-debit .ensures) (c .before .before .frame6 .given .1)
+
+returns-8 : tie.Need-returns-8
+returns-8 c = taken-in-order (c .before .before .before .before) (c .take-ten-pays .ensures) (c .before .before .frame7 .given .1)
 
 pub step-spec : {M : Type 1} → statement M
 step-spec =
@@ -91,9 +100,12 @@ step-spec =
     take-factor-requires
     enum-known-frame-6
     take-debit-requires
+    enum-known-frame-7
+    take-ten-pays-requires
     returns-2
     returns-3
     returns-4
     returns-5
     returns-6
-    returns-7)
+    returns-7
+    returns-8)

@@ -31,6 +31,12 @@ is-within-requires-3 c κs = search needs
 enum-told-6 : tie.Need-enum-told-6
 enum-told-6 c = search needs
 
+enum-told-7 : tie.Need-enum-told-7
+enum-told-7 c = search needs
+
+is-within-requires-4 : tie.Need-is-within-requires-4
+is-within-requires-4 c κs = search needs
+
 returns : tie.Need-returns
 unfolding inOrderAt
 returns c = rw (c .enum-told .given .1)
@@ -55,6 +61,10 @@ returns-6 : tie.Need-returns-6
 unfolding inOrderAt
 returns-6 c = rw (c .enum-told6 .given .1)
 
+returns-7 : tie.Need-returns-7
+unfolding inOrderAt
+returns-7 c = rw (c .before .enum-told7 .given .1, c .is-within4 .ensures)
+
 pub is-in-order-spec : {M : Type 1} → statement M
 is-in-order-spec =
     tie.close
@@ -68,9 +78,12 @@ is-in-order-spec =
     enum-told-5
     is-within-requires-3
     enum-told-6
+    enum-told-7
+    is-within-requires-4
     returns
     returns-2
     returns-3
     returns-4
     returns-5
-    returns-6)
+    returns-6
+    returns-7)

@@ -1,21 +1,20 @@
--- `debits::DebitsState::amounts` meets its contract: the lump sum's debit goes with the 1995 pension's.
-use borrow.Author.Tests.{eq-eqb, ne-eqb}
-use Rattle.benefits.specs.Steps.{lumpDebit}
-use Rattle.debits.specs.Debits.{debitsOf}
+-- `debits::DebitsState::amounts` meets its contract: the lump sum's debit goes with that of the section's pension.
+use native.Mathlib.Omega.{arith}
+use Rattle.debits.specs.Debits.{highestDebit, debitsOf}
+use Rattle.debits.proofs.Debits.{pension-if-most}
 use borrow.Author.Needs.{needs}
 use Rattle.debits.proofs.DebitsState.amounts.Statement.{statement}
 use Rattle.debits.proofs.DebitsState.amounts.Tie as tie
 
+pension-if-requires : tie.Need-pension-if-requires
+pension-if-requires c κs = search needs
+
+lump-if-requires : tie.Need-lump-if-requires
+lump-if-requires c κs = omega (arith, c .pension-if .ensures, pension-if-most (c .before .before .args .section) _ highestDebit (c .before .before .pre .pension1995))
+
 returns : tie.Need-returns
-unfolding debitsOf lumpDebit
-returns c = simp (ne-eqb _ _ (c .if1 .taken))
-
-lump-debit-requires : tie.Need-lump-debit-requires
-lump-debit-requires c κs = search needs
-
-returns-2 : tie.Need-returns-2
 unfolding debitsOf
-returns-2 c = simp (eq-eqb _ _ (c .before .before .if1 .left), ← (c .lump-debit .ensures))
+returns c = rw (← (c .before .pension-if .ensures), ← (c .lump-if .ensures))
 
 pub amounts-spec : {M : Type 1} → statement M
-amounts-spec = tie.close (tie.spec returns lump-debit-requires returns-2)
+amounts-spec = tie.close (tie.spec pension-if-requires lump-if-requires returns)

@@ -18,7 +18,7 @@ returns-2 : tie.Need-returns-2
 unfolding factorsHeld
 returns-2 c =
     let t = c .before .before .wanted-found in
-    simp (← (t .ensures), not-false (t .result) (c .before .if1 .left), ne-eqb _ _ (c .if2 .taken))
+    simp (← (t .ensures), not-false (t .result) (c .before .if1 .left), eq-eqb _ _ (c .if2 .taken))
 
 wanted-found-requires-2 : tie.Need-wanted-found-requires-2
 wanted-found-requires-2 c κs = search needs
@@ -27,7 +27,7 @@ returns-3 : tie.Need-returns-3
 unfolding factorsHeld
 returns-3 c =
     let t = c .before .before .before .wanted-found in
-    simp (← (t .ensures), not-false (t .result) (c .before .before .if1 .left), eq-eqb _ _ (c .before .if2 .left), ← (c .wanted-found2 .ensures))
+    simp (← (t .ensures), not-false (t .result) (c .before .before .if1 .left), ne-eqb _ _ (c .before .if2 .left), ← (c .wanted-found2 .ensures))
 
 pub is-complete-spec : {M : Type 1} → statement M
 is-complete-spec =

@@ -25,6 +25,9 @@ factor-in-requires c κs = c .before .before .pre ∙ ap frameLength (c .match .
 debit-in-requires : tie.Need-debit-in-requires
 debit-in-requires c κs = c .before .before .pre ∙ ap frameLength (c .match .keys6)
 
+ten-pays-in-requires : tie.Need-ten-pays-in-requires
+ten-pays-in-requires c κs = c .before .before .pre ∙ ap frameLength (c .match .keys7)
+
 returns : tie.Need-returns
 unfolding frameOf
 returns c = rw (c .before .match .keys1, c .member-in .ensures)
@@ -51,7 +54,11 @@ returns-6 c = rw (c .before .match .keys6, c .debit-in .ensures)
 
 returns-7 : tie.Need-returns-7
 unfolding frameOf
-returns-7 c = search tests
+returns-7 c = rw (c .before .match .keys7, c .ten-pays-in .ensures)
+
+returns-8 : tie.Need-returns-8
+unfolding frameOf
+returns-8 c = search tests
 
 pub frame-of-spec : {M : Type 1} → statement M
 frame-of-spec =
@@ -63,10 +70,12 @@ frame-of-spec =
     final-pay-in-requires
     factor-in-requires
     debit-in-requires
+    ten-pays-in-requires
     returns
     returns-2
     returns-3
     returns-4
     returns-5
     returns-6
-    returns-7)
+    returns-7
+    returns-8)

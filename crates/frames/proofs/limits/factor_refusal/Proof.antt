@@ -42,17 +42,26 @@ returns-5 : tie.Need-returns-5
 unfolding factorRefusal
 returns-5 c = search (tests, stood (before-months (c .before .before .before .before)))
 
+has-lump-sum-requires : tie.Need-has-lump-sum-requires
+has-lump-sum-requires c κs = search needs
+
 returns-6 : tie.Need-returns-6
 unfolding factorRefusal
-returns-6 c = search (tests, stood (before-months (before-factors (c .before .before))))
+returns-6 c =
+    let lump = c .before .has-lump-sum in
+    search (tests, stood (before-months (before-factors (c .before .before))), sym (lump .ensures) ∙ c .if6 .taken)
 
 returns-7 : tie.Need-returns-7
 unfolding factorRefusal
-returns-7 c = search (tests, stood (before-months (before-factors (c .before .before .before .before))))
+returns-7 c =
+    let lump = c .before .before .before .has-lump-sum in
+    search (tests, stood (before-months (before-factors (c .before .before .before .before))), sym (lump .ensures) ∙ c .before .before .if6 .left)
 
 returns-8 : tie.Need-returns-8
 unfolding factorRefusal
-returns-8 c = search (tests, stood (before-months (before-factors (c .before .before .before .before))))
+returns-8 c =
+    let lump = c .before .before .before .has-lump-sum in
+    search (tests, stood (before-months (before-factors (c .before .before .before .before))), sym (lump .ensures) ∙ c .before .before .if6 .left)
 
 pub factor-refusal-spec : {M : Type 1} → statement M
 factor-refusal-spec =
@@ -64,6 +73,7 @@ factor-refusal-spec =
     returns-3
     returns-4
     returns-5
+    has-lump-sum-requires
     returns-6
     returns-7
     returns-8)

@@ -1,4 +1,4 @@
--- `section::SectionState::is_complete` meets its contract: only section 1 wants an 04.
+-- `section::SectionState::is_complete` meets its contract: without a section no pay frame is wanted.
 use borrow.Author.Tests.{ne-eqb, eq-eqb}
 use Rattle.section.specs.Section.{payHeld}
 use Rattle.section.proofs.SectionState.is_complete.Statement.{statement}
@@ -6,11 +6,11 @@ use Rattle.section.proofs.SectionState.is_complete.Tie as tie
 
 returns : tie.Need-returns
 unfolding payHeld
-returns c = rw (ne-eqb _ _ (c .if1 .taken))
+returns c = rw (eq-eqb _ _ (c .if1 .taken))
 
 returns-2 : tie.Need-returns-2
 unfolding payHeld
-returns-2 c = rw (eq-eqb _ _ (c .if1 .left))
+returns-2 c = rw (ne-eqb _ _ (c .if1 .left))
 
 pub is-complete-spec : {M : Type 1} → statement M
 is-complete-spec = tie.close (tie.spec returns returns-2)

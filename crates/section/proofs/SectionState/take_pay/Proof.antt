@@ -13,9 +13,12 @@ returns : tie.Need-returns
 unfolding payTaken payFields tried
 returns c = rw (← (c .before .final-pay-refusal .ensures), ne-eqb _ _ (c .if1 .taken))
 
+no-average-requires : tie.Need-no-average-requires
+no-average-requires c κs = search needs
+
 returns-2 : tie.Need-returns-2
 unfolding payTaken payFields tried withPay
-returns-2 c = rw (← (c .before .final-pay-refusal .ensures), c .if1 .left)
+returns-2 c = rw (← (c .before .before .final-pay-refusal .ensures), c .before .if1 .left, c .no-average .ensures)
 
 pub take-pay-spec : {M : Type 1} → statement M
-take-pay-spec = tie.close (tie.spec final-pay-refusal-requires returns returns-2)
+take-pay-spec = tie.close (tie.spec final-pay-refusal-requires returns no-average-requires returns-2)

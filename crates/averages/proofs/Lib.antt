@@ -1,0 +1,3 @@
+pub mod Best
+pub mod Accepted
+pub mod Example

@@ -1,0 +1,2 @@
+pub mod Averages
+pub mod Bounds
