@@ -2,8 +2,14 @@
 
 use crate::unless;
 
-/// The pension age of the 1995 Section.
-pub const SECTION_PENSION_AGE: u64 = 60;
+/// The pension age of the 1995 Section, 1, and of the 2008 Section, 2.
+pub fn section_pension_age(section: u64) -> Option<u64> {
+    match section {
+        1 => Some(60),
+        2 => Some(65),
+        _ => None,
+    }
+}
 
 /// A date as given; it need not be one of the calendar.
 #[derive(Clone, Copy, Debug, PartialEq, Eq)]

@@ -1,9 +1,10 @@
 //! A case: the frames kept, their order and fields, and its closing.
 
 use crate::benefits::{after_year, pension_debit, reduced, FinalPay};
-use crate::calendar::{months_before, try_dates, SECTION_PENSION_AGE};
+use crate::calendar::{months_before, section_pension_age, try_dates};
 use crate::frames::{frame, line_bytes, lines, Debit, Factor, Frame, Member, LARGEST_TEXT};
 use crate::posts::{aggregate, try_post, Post};
+use crate::ten_pays::TenPays;
 use crate::{unless, LARGEST_PAY};
 
 /// The most years of a case.
@@ -23,11 +24,12 @@ pub struct Case {
     pub member: Option<Member>,
     pub years: Vec<Year>,
     pub final_pay: Option<FinalPay>,
+    pub ten_pays: Option<TenPays>,
     pub factors: Vec<Factor>,
     pub debits: Vec<Debit>,
 }
 
-/// Pensions and lump sum, in pence.
+/// Pensions and lump sum, in pence. What a section gives stands in the 1995 place.
 #[derive(Clone, Copy, Debug, Default, PartialEq, Eq)]
 pub struct Benefits {
     pub pension_2015: u64,
@@ -47,19 +49,44 @@ pub struct Outcome {
 }
 
 impl Case {
-    fn has_section(&self) -> bool {
-        self.member.map_or(false, |member| member.section == 1)
+    /// The member's section; 0 where there is none or no member yet.
+    pub fn section(&self) -> u64 {
+        self.member.map_or(0, |member| member.section)
+    }
+
+    /// Whether there is a lump sum, to be reduced and debited: in the 1995 Section alone.
+    pub fn has_lump_sum(&self) -> bool {
+        self.section() == 1
+    }
+
+    /// The lump sum of a pension, or the lump debit of a pension debit.
+    fn lump_sum_of(&self, pension: u64) -> u64 {
+        if self.has_lump_sum() {
+            3 * pension
+        } else {
+            0
+        }
+    }
+
+    /// Whether the section's own pays are there, if there is a section.
+    fn has_pays(&self) -> bool {
+        match self.section() {
+            1 => self.final_pay.is_some(),
+            2 => self.ten_pays.is_some(),
+            _ => true,
+        }
     }
 
     /// Refusal 4: whether the frame may come now.
     fn try_order(&self, frame: &Frame) -> Result<(), u64> {
-        let before_final_pay =
-            self.final_pay.is_none() && self.factors.is_empty() && self.debits.is_empty();
+        let no_pays = self.final_pay.is_none() && self.ten_pays.is_none();
+        let before_pays = no_pays && self.factors.is_empty() && self.debits.is_empty();
         let allowed = match frame {
             Frame::Member(_) => self.member.is_none(),
-            Frame::Year { .. } => before_final_pay,
-            Frame::Post(_) => before_final_pay && !self.years.is_empty(),
-            Frame::FinalPay(_) => before_final_pay && self.has_section(),
+            Frame::Year { .. } => before_pays,
+            Frame::Post(_) => before_pays && !self.years.is_empty(),
+            Frame::FinalPay(_) => before_pays && self.section() == 1,
+            Frame::TenPays(_) => before_pays && self.section() == 2,
             Frame::Factor(_) => self.debits.is_empty(),
             Frame::Debit(_) => true,
         };
@@ -82,7 +109,7 @@ impl Case {
 
     /// Whether a factor or debit may name the scheme.
     fn knows_scheme(&self, scheme: u64) -> bool {
-        scheme == 0 || (scheme == 1 && self.has_section())
+        scheme == 0 || (scheme == 1 && self.section() != 0)
     }
 
     /// Refusal 10.
@@ -90,7 +117,8 @@ impl Case {
         unless(self.knows_scheme(factor.scheme), 10)?;
         unless((1..=600).contains(&factor.months), 10)?;
         unless(factor.pension <= 1_000 && factor.lump_sum <= 1_000, 10)?;
-        unless(factor.scheme == 1 || factor.lump_sum == 0, 10)?;
+        let of_lump_sum = factor.scheme == 1 && self.has_lump_sum();
+        unless(of_lump_sum || factor.lump_sum == 0, 10)?;
         let after = |last: &Factor| (factor.scheme, factor.months) > (last.scheme, last.months);
         unless(self.factors.last().map_or(true, after), 10)
     }
@@ -110,7 +138,7 @@ impl Case {
         match frame {
             Frame::Member(member) => {
                 try_dates(member.birth, member.retirement, member.pension_age)?;
-                unless(member.section <= 1, 5)?;
+                unless(member.section <= 2, 5)?;
                 self.member = Some(member);
             }
             Frame::Year { april, revaluation } => {
@@ -130,6 +158,10 @@ impl Case {
                 final_pay.tried()?;
                 self.final_pay = Some(final_pay);
             }
+            Frame::TenPays(ten_pays) => {
+                ten_pays.tried()?;
+                self.ten_pays = Some(ten_pays);
+            }
             Frame::Factor(factor) => {
                 self.try_factor(&factor)?;
                 self.factors.push(factor);
@@ -142,13 +174,12 @@ impl Case {
         Ok(())
     }
 
-    /// Months early by scheme; nothing without a member or, for the 1995, without a section.
+    /// Months early by scheme; nothing without a member or, for scheme 1, without a section.
     pub fn months_early(&self, scheme: u64) -> Option<i64> {
         let member = self.member?;
         let pension_age = match scheme {
             0 => member.pension_age,
-            _ if member.section == 1 => SECTION_PENSION_AGE,
-            _ => return None,
+            _ => section_pension_age(member.section)?,
         };
         Some(months_before(member.birth, member.retirement, pension_age))
     }
@@ -172,7 +203,7 @@ impl Case {
         Benefits {
             pension_2015: of(0),
             pension_1995: of(1),
-            lump_sum: 3 * of(1),
+            lump_sum: self.lump_sum_of(of(1)),
         }
     }
 
@@ -184,13 +215,21 @@ impl Case {
         })
     }
 
-    /// Benefits after reduction, of a 2015 pension and of the final pay of a year.
+    /// The section's pension before reduction, of the final pay of a year or of the three years of
+    /// which it is the last.
+    fn section_pension(&self, final_year: usize) -> u64 {
+        let of_1995 = self.final_pay.map(|pay| pay.pension(final_year));
+        let of_2008 = self.ten_pays.map(|pays| pays.pension(final_year));
+        of_1995.or(of_2008).unwrap_or(0)
+    }
+
+    /// Benefits after reduction, of a 2015 pension and of a final year of the section.
     pub fn benefits(&self, pension_2015: u64, final_year: usize) -> Result<Benefits, u64> {
-        let pension_1995 = self.final_pay.map_or(0, |pay| pay.pension(final_year));
+        let pension = self.section_pension(final_year);
         let mut benefits = Benefits {
             pension_2015,
-            pension_1995,
-            lump_sum: 3 * pension_1995,
+            pension_1995: pension,
+            lump_sum: self.lump_sum_of(pension),
         };
         if let Some(factor) = self.factor(0)? {
             benefits.pension_2015 = reduced(benefits.pension_2015, factor.pension);
@@ -202,9 +241,12 @@ impl Case {
         Ok(benefits)
     }
 
-    /// The year of final pay; year 1 stands for it where there is no section.
+    /// The year of final pay or the last of the best three; year 1 stands for it where there is no
+    /// section.
     pub fn final_year(&self) -> usize {
-        self.final_pay.map_or(1, |pay| pay.final_year())
+        let of_1995 = self.final_pay.map(|pay| pay.final_year());
+        let of_2008 = self.ten_pays.map(|pays| pays.best_year());
+        of_1995.or(of_2008).unwrap_or(1)
     }
 
     /// The aggregate of each year by the posts step.
@@ -222,10 +264,10 @@ impl Case {
         self.close_with(&self.aggregates(), self.final_year())
     }
 
-    /// The same of one aggregate for each year and of the final pay of a year.
+    /// The same of one aggregate for each year and of a final year of the section.
     pub fn close_with(&self, aggregates: &[u64], final_year: usize) -> Result<Outcome, u64> {
         unless(self.member.is_some(), 4)?;
-        unless(!self.has_section() || self.final_pay.is_some(), 12)?;
+        unless(self.has_pays(), 12)?;
         let had = self.benefits(self.pension_2015(aggregates), final_year)?;
         let debits = self.benefit_debits();
         let less = |amount: u64, debit: u64| amount.checked_sub(debit).ok_or(14u64);

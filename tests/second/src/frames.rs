@@ -3,6 +3,7 @@
 use crate::benefits::FinalPay;
 use crate::calendar::Date;
 use crate::posts::Post;
+use crate::ten_pays::TenPays;
 
 /// The largest text in bytes.
 pub const LARGEST_TEXT: usize = 32_768;
@@ -38,6 +39,7 @@ pub enum Frame {
     Year { april: u64, revaluation: u64 },
     Post(Post),
     FinalPay(FinalPay),
+    TenPays(TenPays),
     Factor(Factor),
     Debit(Debit),
 }
@@ -102,6 +104,7 @@ fn widths(kind: u8) -> Option<&'static [usize]> {
         0x04 => Some(&[4, 4, 4, 4, 2, 2, 2, 1, 2, 2]),
         0x05 => Some(&[1, 2, 2, 2]),
         0x06 => Some(&[1, 4, 2]),
+        0x08 => Some(&[4, 4, 4, 4, 4, 4, 4, 4, 4, 4, 2]),
         _ => None,
     }
 }
@@ -121,19 +124,23 @@ fn fields(kind: u8, bytes: &[u8]) -> Option<Vec<u64>> {
     Some(widths.iter().map(number).collect())
 }
 
+/// The date of three fields.
+fn date(fields: &[u64]) -> Date {
+    Date {
+        year: fields[0],
+        month: fields[1],
+        day: fields[2],
+    }
+}
+
 /// The frame of bytes, or refusal 3.
 pub fn frame(bytes: &[u8]) -> Result<Frame, u64> {
     let (&kind, rest) = bytes.split_first().ok_or(3u64)?;
     let of = fields(kind, rest).ok_or(3u64)?;
-    let date = |at: usize| Date {
-        year: of[at],
-        month: of[at + 1],
-        day: of[at + 2],
-    };
     Ok(match kind {
         0x01 => Frame::Member(Member {
-            birth: date(0),
-            retirement: date(3),
+            birth: date(&of[..3]),
+            retirement: date(&of[3..6]),
             section: of[6],
             pension_age: of[7],
         }),
@@ -153,10 +160,13 @@ pub fn frame(bytes: &[u8]) -> Result<Frame, u64> {
             pension: of[2],
             lump_sum: of[3],
         }),
-        _ => Frame::Debit(Debit {
+        0x06 => Frame::Debit(Debit {
             scheme: of[0],
             pot: of[1],
             factor: of[2],
         }),
+        _ => Frame::TenPays(TenPays::of(
+            of.as_slice().try_into().expect("eleven fields"),
+        )),
     })
 }

@@ -4,4 +4,5 @@ pub mod accepted;
 pub mod calls;
 pub mod damaged;
 pub mod employers;
+pub mod ten_pays;
 pub mod writing;

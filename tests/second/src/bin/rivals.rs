@@ -9,14 +9,16 @@ use second::posts::{aggregate_of, filled, minutes_together, parts_of, parts_toge
 use second::random::Random;
 use second::samples::accepted;
 use second::samples::writing::case_text;
+use second::ten_pays::TenPays;
 use second::Outcome;
 use std::collections::BTreeSet;
+use std::ops::RangeInclusive;
 use std::process::exit;
 
 const SEED: u64 = 0x0061_7661_6C73_0003;
 const SMALL_CASES: u64 = 4_000;
 const LARGE_CASES: u64 = 10_000;
-const RIVALS_OF_A_LARGE_CASE: u64 = 60;
+const RIVALS_OF_A_LARGE_CASE: usize = 60;
 
 /// The two amounts a rival is judged by; a net below zero stays so.
 #[derive(Clone, Copy, Debug, PartialEq, Eq)]
@@ -25,7 +27,7 @@ struct Nets {
     lump_sum: i128,
 }
 
-/// The nets of a 2015 pension before reduction and of the final pay of a year.
+/// The nets of a 2015 pension before reduction and of a final year of the section.
 fn nets(case: &Case, pension_2015: u64, final_year: usize) -> Nets {
     let had = case
         .benefits(pension_2015, final_year)
@@ -46,12 +48,13 @@ fn given_nets(given: &Outcome) -> Nets {
     }
 }
 
-/// The years that a rival may pick for final pay; one stands for none without a section.
-fn final_years(case: &Case) -> std::ops::RangeInclusive<usize> {
-    if case.final_pay.is_some() {
-        1..=3
-    } else {
-        1..=1
+/// The years that a rival may pick for final pay, or for the last of three consecutive years; one
+/// stands for none without a section.
+fn final_years(case: &Case) -> RangeInclusive<usize> {
+    match case.section() {
+        1 => 1..=3,
+        2 => TenPays::last_years(),
+        _ => 1..=1,
     }
 }
 
@@ -205,18 +208,19 @@ fn rival_parts(random: &mut Random, posts: &[Post]) -> Vec<u64> {
     parts
 }
 
-/// Holds a case against some rivals; gives how many of them were as good in both amounts.
+/// Holds a case against some rivals, with each final year in turn; gives how many of them were as
+/// good in both amounts.
 fn try_some_rivals(random: &mut Random, case: &Case) -> u64 {
     let text = case_text(case);
     let given = given_nets(&engine::case(&text));
     let mut as_good = 0;
-    for _ in 0..RIVALS_OF_A_LARGE_CASE {
+    let final_years = final_years(case).cycle();
+    for final_year in final_years.take(RIVALS_OF_A_LARGE_CASE) {
         let aggregates: Vec<u64> = case
             .years
             .iter()
             .map(|year| aggregate_of(&year.posts, &rival_parts(random, &year.posts)))
             .collect();
-        let final_year = random.between(1, *final_years(case).end() as u64) as usize;
         let rival = nets(case, case.pension_2015(&aggregates), final_year);
         if rival.pensions > given.pensions || rival.lump_sum > given.lump_sum {
             fail(&text, given, rival);
@@ -229,19 +233,21 @@ fn try_some_rivals(random: &mut Random, case: &Case) -> u64 {
 fn main() {
     let mut random = Random::new(SEED);
     let mut every = 0;
-    let mut with_section = 0;
+    let mut by_section = [0; 3];
     for _ in 0..SMALL_CASES {
         let case = accepted::small_case(&mut random);
         every += try_every_rival(&case);
-        with_section += u64::from(case.final_pay.is_some());
+        by_section[case.section() as usize] += 1;
     }
-    println!("{SMALL_CASES} small cases ({with_section} with a section), all of {every} rivals");
+    let [none, of_1995, of_2008] = by_section;
+    println!("{SMALL_CASES} small cases, all of {every} rivals:");
+    println!("{none} without a section, {of_1995} in the 1995 Section, {of_2008} in the 2008");
     let mut as_good = 0;
     for _ in 0..LARGE_CASES {
         let case = accepted::case(&mut random);
         as_good += try_some_rivals(&mut random, &case);
     }
-    let some = LARGE_CASES * RIVALS_OF_A_LARGE_CASE;
+    let some = LARGE_CASES * RIVALS_OF_A_LARGE_CASE as u64;
     println!("{LARGE_CASES} large cases, {some} rivals, {as_good} of them as good");
     println!("no rival is better");
 }

@@ -1,11 +1,12 @@
 //! Cases that are accepted, with rare but telling shapes made common.
 
 use crate::benefits::{pension_debit, FinalPay};
-use crate::calendar::{month_length, months_before, Date};
+use crate::calendar::{month_length, months_before, section_pension_age, Date};
 use crate::cases::{Benefits, Case, Year, MOST_YEARS};
 use crate::frames::{Debit, Factor, Member, LARGEST_TEXT};
 use crate::posts::{Post, MOST_POSTS};
 use crate::random::Random;
+use crate::samples::ten_pays::ten_pays;
 use crate::wide::rounded;
 use crate::LARGEST_PAY;
 
@@ -226,23 +227,26 @@ fn dates_in_months(random: &mut Random, year: u64, months: u64) -> (Date, Date) 
     (birth, date_in(random, reached / 12, reached % 12 + 1))
 }
 
-/// The months of age at retirement for which dates are drawn: round a pension age, or any.
-fn age_months(random: &mut Random, pension_age: u64) -> u64 {
+/// The months of age at retirement for which dates are drawn: round a pension age, in the five years
+/// before that of the section, or any.
+fn age_months(random: &mut Random, pension_age: u64, section_age: u64) -> u64 {
     if random.one_in(12) {
         return 12 * pension_age - LAST_MONTH as u64;
     }
-    let round = random.pick(&[12 * pension_age, 720]) + random.below(4) - 2;
+    let round = 12 * random.pick(&[pension_age, section_age]) + random.below(4) - 2;
     let early = 12 * pension_age - random.between(1, 300);
     let both_early = random.between(500, 700);
+    let near_section = 12 * section_age - random.between(1, 60);
     let any = random.between(0, 1_100);
-    random.pick(&[round, early, both_early, both_early, any])
+    random.pick(&[round, early, both_early, both_early, near_section, any])
 }
 
 /// A member whose factors, if any are needed, can be in a case.
 pub fn member(random: &mut Random, section: u64) -> Member {
+    let section_age = section_pension_age(section).unwrap_or(60);
     loop {
         let pension_age = random.near_ends(55, 75);
-        let months = age_months(random, pension_age);
+        let months = age_months(random, pension_age, section_age);
         let birth_year = random.near_ends(1900, 2099 - months / 12);
         let (birth, retirement) = if random.one_in(4) {
             dates_at_ends(random, birth_year, months)
@@ -258,8 +262,8 @@ pub fn member(random: &mut Random, section: u64) -> Member {
         let exists = retirement.exists();
         let in_order = (birth.month, birth.day) <= (retirement.month, retirement.day)
             || birth.year < retirement.year;
-        if exists && in_order && months_before(birth, retirement, pension_age.max(60)) <= LAST_MONTH
-        {
+        let later_age = pension_age.max(section_age);
+        if exists && in_order && months_before(birth, retirement, later_age) <= LAST_MONTH {
             return member;
         }
     }
@@ -270,6 +274,15 @@ fn thousandths(random: &mut Random) -> u64 {
     let any = random.near_ends(0, 1_000);
     let common = random.between(400, 999);
     random.pick(&[any, common, common, 500])
+}
+
+/// A lump factor of the scheme: 0 where there is no lump sum.
+fn lump_factor(random: &mut Random, case: &Case, scheme: u64) -> u64 {
+    if scheme == 1 && case.has_lump_sum() {
+        thousandths(random)
+    } else {
+        0
+    }
 }
 
 /// The 05s that a case needs, with others among them.
@@ -294,7 +307,7 @@ fn factors(random: &mut Random, case: &Case, others: u64) -> Vec<Factor> {
             scheme,
             months,
             pension: thousandths(random),
-            lump_sum: if scheme == 1 { thousandths(random) } else { 0 },
+            lump_sum: lump_factor(random, case, scheme),
         }));
     }
     list
@@ -339,13 +352,18 @@ fn debit_within(random: &mut Random, scheme: u64, amount: u64) -> Option<Debit> 
     debit_of(random, scheme, less)
 }
 
-/// The most that a pension debit of the 1995 Section can be.
-pub fn most_1995_debit(had: &Benefits) -> u64 {
-    had.pension_1995.min(had.lump_sum / 3)
+/// The most that the pension debit of a section can be.
+fn most_section_debit(case: &Case, had: &Benefits) -> u64 {
+    if case.has_lump_sum() {
+        had.pension_1995.min(had.lump_sum / 3)
+    } else {
+        had.pension_1995
+    }
 }
 
 /// Tries lump sum factors until the whole lump sum can go to the debit before the pension does.
 fn with_lump_sum_in_thirds(random: &mut Random, case: &mut Case) -> Option<()> {
+    case.final_pay?;
     let months = case.months_early(1).filter(|&months| months > 0)? as u64;
     let place = case
         .factors
@@ -369,21 +387,23 @@ fn debits(random: &mut Random, case: &Case) -> Vec<Debit> {
     if random.below(3) != 0 {
         list.extend(debit_within(random, 0, had.pension_2015));
     }
-    if case.final_pay.is_some() && random.below(3) != 0 {
-        list.extend(debit_within(random, 1, most_1995_debit(&had)));
+    if case.section() != 0 && random.below(3) != 0 {
+        list.extend(debit_within(random, 1, most_section_debit(case, &had)));
     }
     list
 }
 
-/// A case of the years, with a section or without; it is accepted.
+/// A case of the years, in a section or without; it is accepted.
 fn case_of_years(random: &mut Random, section: u64, years: Vec<Year>) -> Case {
     let mut case = Case {
         member: Some(member(random, section)),
         years,
         ..Case::default()
     };
-    if section == 1 {
-        case.final_pay = Some(final_pay(random));
+    match section {
+        1 => case.final_pay = Some(final_pay(random)),
+        2 => case.ten_pays = Some(ten_pays(random)),
+        _ => {}
     }
     case.factors = factors(random, &case, 3);
     if random.one_in(3) {
@@ -394,7 +414,7 @@ fn case_of_years(random: &mut Random, section: u64, years: Vec<Year>) -> Case {
     case
 }
 
-/// A case of as many years, with a section or without; it is accepted.
+/// A case of as many years, in a section or without; it is accepted.
 fn case_with(random: &mut Random, section: u64, years_count: u64) -> Case {
     let years = years(random, years_count);
     case_of_years(random, section, years)
@@ -402,7 +422,7 @@ fn case_with(random: &mut Random, section: u64, years_count: u64) -> Case {
 
 /// An accepted case with so few minutes that every division of its parts can be tried.
 pub fn small_case(random: &mut Random) -> Case {
-    let section = u64::from(!random.one_in(3));
+    let section = random.below(3);
     let years_count = random.between(1, 3);
     let mut years = years(random, years_count);
     let most_pay = random.pick(&[60, 400, 1_500]);
@@ -417,9 +437,9 @@ pub fn small_case(random: &mut Random) -> Case {
     case_of_years(random, section, years)
 }
 
-/// Any accepted case.
+/// Any accepted case: a third without a section, a third in each section.
 pub fn case(random: &mut Random) -> Case {
-    let section = u64::from(!random.one_in(3));
+    let section = random.below(3);
     let years_count = match random.below(40) {
         0 => 0,
         1 => random.near_ends(5, MOST_YEARS as u64),
@@ -434,12 +454,18 @@ pub fn case_without_section(random: &mut Random) -> Case {
     case_with(random, 0, years_count)
 }
 
-/// An accepted case with every kind of frame: a section, years with posts, both factors, both
-/// debits.
+/// An accepted case in either section with every kind of frame that may stand there: years with
+/// posts, the section's pays, both factors, both debits.
 pub fn whole_case(random: &mut Random) -> Case {
+    let section = random.between(1, 2);
+    whole_case_in(random, section)
+}
+
+/// The same in a given section.
+pub fn whole_case_in(random: &mut Random, section: u64) -> Case {
     loop {
         let years_count = random.between(2, 4);
-        let case = case_with(random, 1, years_count);
+        let case = case_with(random, section, years_count);
         let early = |scheme| case.months_early(scheme).map_or(false, |months| months > 0);
         let posts = case.years.iter().all(|year| !year.posts.is_empty());
         if early(0) && early(1) && case.debits.len() == 2 && posts {
@@ -450,8 +476,9 @@ pub fn whole_case(random: &mut Random) -> Case {
 
 /// An accepted case of the most years, whose text is as large as a text may be.
 pub fn largest_case(random: &mut Random) -> Case {
+    let section = random.between(1, 2);
     loop {
-        let mut case = case_with(random, 1, MOST_YEARS as u64);
+        let mut case = case_with(random, section, MOST_YEARS as u64);
         for year in &mut case.years {
             year.posts = small_posts(random, 1, 40, 9_000);
         }
@@ -467,13 +494,19 @@ pub fn largest_case(random: &mut Random) -> Case {
 const POST_LINE: usize = 19;
 const FACTOR_LINE: usize = 17;
 
+/// The bytes of all lines but factors of a case of the most years, with so many posts.
+fn other_lines(case: &Case, posts: usize) -> usize {
+    let pays_line = if case.ten_pays.is_some() { 87 } else { 57 };
+    23 + 11 * MOST_YEARS + pays_line + POST_LINE * posts
+}
+
 /// Adds posts until the rest of the largest text can be filled with factors.
 fn fill_posts(random: &mut Random, case: &mut Case) {
     let least = random.between(620, 780);
     for count in MOST_YEARS as u64.. {
         let year = &mut case.years[count as usize % MOST_YEARS];
         year.posts.extend(small_posts(random, 1, 40, 9_000));
-        let other = 23 + 11 * MOST_YEARS + 57 + POST_LINE * (count as usize + 1);
+        let other = other_lines(case, count as usize + 1);
         if count >= least && (LARGEST_TEXT - other) % FACTOR_LINE == 0 {
             return;
         }
@@ -483,8 +516,7 @@ fn fill_posts(random: &mut Random, case: &mut Case) {
 /// Adds factors to a case until its text has the largest size.
 fn fill_factors(random: &mut Random, case: &mut Case) -> Option<()> {
     let posts: usize = case.years.iter().map(|year| year.posts.len()).sum();
-    let other = 23 + 11 * MOST_YEARS + 57 + POST_LINE * posts;
-    let count = (LARGEST_TEXT - other) / FACTOR_LINE;
+    let count = (LARGEST_TEXT - other_lines(case, posts)) / FACTOR_LINE;
     let mut chances: Vec<(u64, u64)> = (0..2)
         .flat_map(|scheme| (1..=LAST_MONTH as u64).map(move |months| (scheme, months)))
         .filter(|wanted| {
@@ -499,7 +531,7 @@ fn fill_factors(random: &mut Random, case: &mut Case) -> Option<()> {
             scheme: *scheme,
             months: *months,
             pension: random.between(0, 1_000),
-            lump_sum: scheme * random.between(0, 1_000),
+            lump_sum: lump_factor(random, case, *scheme),
         });
     }
     case.factors

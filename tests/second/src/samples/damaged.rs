@@ -1,4 +1,4 @@
-//! Texts that are refused, by every cause that document 01 names.
+//! Texts that are refused, by every cause that document 01 and request 2.4 name.
 
 mod closing;
 mod fields;
@@ -33,8 +33,12 @@ enum Way {
         low: u64,
         high: u64,
     },
+    /// A frame of the kind is cut, or filled up, to so many bytes.
+    Length { kind: u8, length: usize },
     /// A frame of the kind is put after one of another kind.
     After { earlier: u8, kind: u8 },
+    /// The pays of the kind stand with a section that has no such pays, within their limits or past.
+    Section { kind: u8, section: u64, past: bool },
     /// By a function of its own.
     Own(fn(&mut Random) -> Damaged),
 }
@@ -62,7 +66,13 @@ impl Cause {
                 let number = random.near_ends(low, high);
                 sheets::with_field(random, kind, at, width, number)
             }
+            Way::Length { kind, length } => sheets::with_length(random, kind, length),
             Way::After { earlier, kind } => sheets::with_frame_after(random, earlier, kind),
+            Way::Section {
+                kind,
+                section,
+                past,
+            } => lines::pays_of_other_section(random, kind, section, past),
             Way::Own(make) => make(random),
         }
     }
@@ -85,6 +95,26 @@ const fn field(
         refusal,
         words,
         way,
+    }
+}
+
+const fn length(words: &'static str, kind: u8, length: usize) -> Cause {
+    Cause {
+        refusal: 3,
+        words,
+        way: Way::Length { kind, length },
+    }
+}
+
+const fn section(words: &'static str, kind: u8, section: u64, past: bool) -> Cause {
+    Cause {
+        refusal: 4,
+        words,
+        way: Way::Section {
+            kind,
+            section,
+            past,
+        },
     }
 }
 
@@ -112,7 +142,7 @@ const FOUR: u64 = 0xFFFF_FFFF;
 /// The first number past a pay or pot.
 const PAST_PAY: u64 = LARGEST_PAY + 1;
 
-/// Every cause that document 01 names, in its order.
+/// Every cause that document 01 names, in its order, those of request 2.4 among them.
 pub const CAUSES: &[Cause] = &[
     own(1, "a text one byte over", lines::one_byte_over),
     own(1, "a text far over", lines::far_over),
@@ -137,26 +167,47 @@ pub const CAUSES: &[Cause] = &[
     own(3, "the kind alone", lines::kind_alone),
     own(3, "a line far too long", lines::far_too_long),
     own(3, "a wrong length out of order", lines::length_and_order),
+    length("08 of 42 bytes", 8, 42),
+    length("08 of 44 bytes", 8, 44),
+    length("08 as long as an 04", 8, 28),
+    length("08 as long as an 05", 8, 8),
+    length("04 as long as an 08", 4, 43),
     own(4, "an empty text", lines::empty_text),
     own(4, "a first frame that is no 01", lines::no_member_first),
+    own(4, "a first frame that is an 08", lines::ten_pays_first),
     after("a second 01 after 01", 1, 1),
     after("a second 01 after 02", 2, 1),
     after("a second 01 after 03", 3, 1),
     after("a second 01 after 04", 4, 1),
     after("a second 01 after 05", 5, 1),
     after("a second 01 after 06", 6, 1),
+    after("a second 01 after 08", 8, 1),
     after("03 before any 02", 1, 3),
     after("02 after 04", 4, 2),
     after("02 after 05", 5, 2),
     after("02 after 06", 6, 2),
+    after("02 after 08", 8, 2),
     after("03 after 04", 4, 3),
     after("03 after 05", 5, 3),
     after("03 after 06", 6, 3),
+    after("03 after 08", 8, 3),
     after("a second 04", 4, 4),
     after("04 after 05", 5, 4),
     after("04 after 06", 6, 4),
+    after("04 after 08", 8, 4),
+    after("08 after 04", 4, 8),
+    after("08 after 05", 5, 8),
+    after("08 after 06", 6, 8),
+    after("a second 08", 8, 8),
     after("05 after 06", 6, 5),
-    own(4, "04 without section", lines::no_section),
+    section("04 without section", 4, 0, false),
+    section("04 without section, past its limits", 4, 0, true),
+    section("04 with section 2", 4, 2, false),
+    section("04 with section 2, past its limits", 4, 2, true),
+    section("08 without section", 8, 0, false),
+    section("08 without section, past its limits", 8, 0, true),
+    section("08 with section 1", 8, 1, false),
+    section("08 with section 1, past its limits", 8, 1, true),
     field(5, "birth year too early", (1, 1, 2), (0, 1899)),
     field(5, "birth year too late", (1, 1, 2), (2101, PAIR)),
     field(5, "birth month 0", (1, 3, 1), (0, 0)),
@@ -187,7 +238,7 @@ pub const CAUSES: &[Cause] = &[
         "retirement years before birth",
         fields::before_birth_year,
     ),
-    field(5, "section above 1", (1, 9, 1), (2, BYTE)),
+    field(5, "section above 2", (1, 9, 1), (3, BYTE)),
     field(5, "pension age below 55", (1, 10, 1), (0, 54)),
     field(5, "pension age above 75", (1, 10, 1), (76, BYTE)),
     field(6, "April year below 2015", (2, 1, 2), (0, 2014)),
@@ -217,6 +268,17 @@ pub const CAUSES: &[Cause] = &[
     field(9, "days above 16,425", (4, 24, 2), (16_426, PAIR)),
     field(9, "factor 0", (4, 26, 2), (0, 0)),
     field(9, "factor above 10,000", (4, 26, 2), (10_001, PAIR)),
+    field(27, "pay 10 too large", (8, 1, 4), (PAST_PAY, FOUR)),
+    field(27, "pay 9 too large", (8, 5, 4), (PAST_PAY, FOUR)),
+    field(27, "pay 8 too large", (8, 9, 4), (PAST_PAY, FOUR)),
+    field(27, "pay 7 too large", (8, 13, 4), (PAST_PAY, FOUR)),
+    field(27, "pay 6 too large", (8, 17, 4), (PAST_PAY, FOUR)),
+    field(27, "pay 5 too large", (8, 21, 4), (PAST_PAY, FOUR)),
+    field(27, "pay 4 too large", (8, 25, 4), (PAST_PAY, FOUR)),
+    field(27, "pay 3 too large", (8, 29, 4), (PAST_PAY, FOUR)),
+    field(27, "pay 2 too large", (8, 33, 4), (PAST_PAY, FOUR)),
+    field(27, "pay 1 too large", (8, 37, 4), (PAST_PAY, FOUR)),
+    field(27, "days above 16,425", (8, 41, 2), (16_426, PAIR)),
     field(10, "scheme above 1", (5, 1, 1), (2, BYTE)),
     own(
         10,
@@ -232,6 +294,11 @@ pub const CAUSES: &[Cause] = &[
         "lump factor not 0 for scheme 0",
         fields::lump_factor_2015,
     ),
+    own(
+        10,
+        "lump factor not 0 for section 2",
+        fields::lump_factor_2008,
+    ),
     own(10, "the months before again", fields::same_months),
     own(10, "earlier months of the scheme", fields::earlier_months),
     own(10, "scheme 0 after scheme 1", fields::factor_scheme_back),
@@ -246,9 +313,21 @@ pub const CAUSES: &[Cause] = &[
     own(11, "the scheme before again", fields::same_scheme),
     own(11, "scheme 0 after scheme 1", fields::debit_scheme_back),
     own(12, "section 1 without 04", closing::no_final_pay),
+    own(12, "section 2 without 08", closing::no_ten_pays),
     own(12, "12 before 13 and 14", closing::twelve_first),
     own(13, "no factor of the 2015 Scheme", closing::no_factor_2015),
     own(13, "no factor of the 1995 Section", closing::no_factor_1995),
+    own(13, "no factor of the 2008 Section", closing::no_factor_2008),
+    own(
+        13,
+        "the factor to 60 alone in the 2008 Section",
+        closing::factor_to_60,
+    ),
+    own(
+        13,
+        "no factor of the 2008 Section between 60 and 65",
+        closing::no_factor_past_60,
+    ),
     own(13, "no factor of either", closing::no_factor),
     own(
         13,
@@ -276,5 +355,10 @@ pub const CAUSES: &[Cause] = &[
         14,
         "a debit above the lump sum alone",
         closing::debit_past_lump_sum,
+    ),
+    own(
+        14,
+        "a debit above the 2008 pension",
+        closing::debit_past_2008,
     ),
 ];

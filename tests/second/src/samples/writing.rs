@@ -4,6 +4,7 @@ use crate::benefits::FinalPay;
 use crate::cases::Case;
 use crate::frames::{Debit, Factor, Member};
 use crate::posts::Post;
+use crate::ten_pays::TenPays;
 
 /// A frame's bytes: its kind, then pairs of width and number.
 fn frame(kind: u8, fields: &[(usize, u64)]) -> Vec<u8> {
@@ -52,6 +53,12 @@ pub fn final_pay_frame(final_pay: &FinalPay) -> Vec<u8> {
     frame(0x04, &fields)
 }
 
+pub fn ten_pays_frame(ten_pays: &TenPays) -> Vec<u8> {
+    let mut fields = ten_pays.pays.map(|pay| (4, pay)).to_vec();
+    fields.push((2, ten_pays.days));
+    frame(0x08, &fields)
+}
+
 pub fn factor_frame(factor: &Factor) -> Vec<u8> {
     frame(
         0x05,
@@ -88,6 +95,7 @@ pub fn frames_of(case: &Case) -> Vec<Vec<u8>> {
         frames.extend(year.posts.iter().map(post_frame));
     }
     frames.extend(case.final_pay.iter().map(final_pay_frame));
+    frames.extend(case.ten_pays.iter().map(ten_pays_frame));
     frames.extend(case.factors.iter().map(factor_frame));
     frames.extend(case.debits.iter().map(debit_frame));
     frames

@@ -125,18 +125,18 @@ fn any_year(case: &Case, test: fn(&[Post]) -> bool) -> bool {
     case.years.iter().any(|year| test(&year.posts))
 }
 
-fn early(case: &Case, scheme: u64) -> bool {
+pub fn early(case: &Case, scheme: u64) -> bool {
     case.months_early(scheme).map_or(false, |months| months > 0)
 }
 
 /// Whether retirement is on the last day of a month too short for the birth day.
-fn by_last_day(case: &Case) -> bool {
+pub fn by_last_day(case: &Case) -> bool {
     let completed = |member: Member| completed_by_last_day(member.birth, member.retirement);
     case.member.map_or(false, completed)
 }
 
 /// Whether there are just these debits, 2015 first.
-fn debited(case: &Case, schemes: &[u64]) -> bool {
+pub fn debited(case: &Case, schemes: &[u64]) -> bool {
     let had: Vec<u64> = case.debits.iter().map(|debit| debit.scheme).collect();
     had == schemes
 }
@@ -154,8 +154,8 @@ fn controls(case: &Case, controls: u64) -> bool {
         .map_or(false, |given| given.controls == controls)
 }
 
-/// Which debits take all of an amount that is not nought: 2015 pension, 1995 pension, lump sum.
-fn used_up(case: &Case) -> [bool; 3] {
+/// Which debits take all of an amount that is not nought: 2015 pension, the section's, lump sum.
+pub fn used_up(case: &Case) -> [bool; 3] {
     let had = case.reduced_benefits().expect("an accepted case");
     let debits = case.benefit_debits();
     [
@@ -202,7 +202,11 @@ fn months_start_again(case: &Case) -> bool {
         .any(|pair| pair[0].scheme < pair[1].scheme && pair[1].months < pair[0].months)
 }
 
-/// The classes of accepted cases.
+fn in_1995(case: &Case) -> bool {
+    case.final_pay.is_some()
+}
+
+/// The classes of accepted cases, but for those of the 2008 Section alone.
 pub const CASE_CLASSES: &[Test<Case>] = &[
     ("no year", 500, |case| case.years.is_empty()),
     ("fifty years", 200, |case| case.years.len() == 50),
@@ -230,17 +234,18 @@ pub const CASE_CLASSES: &[Test<Case>] = &[
     ("a later year without posts", 1_000, |case| {
         case.years.iter().skip(1).any(|year| year.posts.is_empty())
     }),
-    ("no section", 1_000, |case| case.final_pay.is_none()),
+    ("no section", 1_000, |case| case.section() == 0),
+    ("the 1995 Section", 20_000, in_1995),
     (
-        "a section with both factors and both debits",
+        "the 1995 Section with both factors and both debits",
         1_000,
-        |case| early(case, 0) && early(case, 1) && debited(case, &[0, 1]),
+        |case| in_1995(case) && early(case, 0) && early(case, 1) && debited(case, &[0, 1]),
     ),
     ("early in the 2015 Scheme alone", 1_000, |case| {
-        case.final_pay.is_some() && early(case, 0) && !early(case, 1)
+        in_1995(case) && early(case, 0) && !early(case, 1)
     }),
     ("early in the 1995 Section alone", 200, |case| {
-        !early(case, 0) && early(case, 1)
+        in_1995(case) && !early(case, 0) && early(case, 1)
     }),
     ("months early nought", 500, |case| {
         case.months_early(0) == Some(0)
@@ -258,7 +263,7 @@ pub const CASE_CLASSES: &[Test<Case>] = &[
         early(case, 0) && by_last_day(case)
     }),
     ("a 1995 factor by a short month's last day", 1_000, |case| {
-        early(case, 1) && by_last_day(case)
+        in_1995(case) && early(case, 1) && by_last_day(case)
     }),
     (
         "months early nought by a short month's last day",
@@ -271,7 +276,9 @@ pub const CASE_CLASSES: &[Test<Case>] = &[
         |case| months_start_again(case),
     ),
     ("a 2015 debit alone", 1_000, |case| debited(case, &[0])),
-    ("a 1995 debit alone", 1_000, |case| debited(case, &[1])),
+    ("a 1995 debit alone", 1_000, |case| {
+        in_1995(case) && debited(case, &[1])
+    }),
     ("final pay of year 3", 1_000, |case| highest_in(case, &[3])),
     ("final pay of year 2", 1_000, |case| highest_in(case, &[2])),
     ("final pay of year 1", 1_000, |case| highest_in(case, &[1])),
@@ -300,7 +307,7 @@ pub const CASE_CLASSES: &[Test<Case>] = &[
         used_up(case)[0]
     }),
     ("a debit equal to the 1995 pension", 1_000, |case| {
-        used_up(case)[1]
+        in_1995(case) && used_up(case)[1]
     }),
     ("a debit equal to the lump sum", 1_000, |case| {
         used_up(case)[2]
@@ -308,7 +315,7 @@ pub const CASE_CLASSES: &[Test<Case>] = &[
     (
         "a debit equal to the 1995 pension, not to the lump sum",
         1_000,
-        |case| used_up(case)[1] && !used_up(case)[2],
+        |case| in_1995(case) && used_up(case)[1] && !used_up(case)[2],
     ),
     (
         "a debit equal to the lump sum, not to the 1995 pension",

@@ -4,6 +4,7 @@
 mod classes;
 mod employers;
 mod tally;
+mod ten_pays;
 
 use classes::{
     Test, ABATEMENT_CLASSES, CASE_CLASSES, CHARGE_CLASSES, DATES_CLASSES, POSTS_CLASSES,
@@ -25,11 +26,12 @@ use second::samples::{accepted, writing};
 use std::fmt::Debug;
 use std::process::exit;
 use tally::Tally;
+use ten_pays::TEN_PAYS_CLASSES;
 
 const SEED: u64 = 0x0001_9950_0002_0150;
 
 /// The accepted cases, the largest ones among them, and the texts damaged without a cause named.
-const CASES: u64 = 70_000;
+const CASES: u64 = 105_000;
 const LARGEST_CASES: u64 = 100;
 const RANDOM_DAMAGES: u64 = 40_000;
 const MIXED_FRAMES: u64 = 20_000;
@@ -110,6 +112,7 @@ fn compare_case(tally: &mut Tally, text: &[u8]) -> (u64, u64) {
         tally.add("case: accepted");
         let case = read(text).expect("an accepted text");
         classify(tally, CASE, CASE_CLASSES, &case);
+        classify(tally, CASE, TEN_PAYS_CLASSES, &case);
     }
     if expected.line > 255 {
         tally.add("case: refused at a line above 255");
@@ -327,7 +330,7 @@ fn expect_refusals(tally: &mut Tally) {
         "case damaged at random",
         "case of mixed frames",
     ] {
-        for refusal in 0..=14 {
+        for refusal in (0..=14).chain([27]) {
             tally.expect(&format!("{words}: refusal {refusal}"), 0);
         }
     }
@@ -341,6 +344,7 @@ fn expected() -> Tally {
     tally.expect("case: accepted", 40_000);
     tally.expect("case: accepted, 32,768 bytes", 50);
     expect_classes(&mut tally, CASE, CASE_CLASSES);
+    expect_classes(&mut tally, CASE, TEN_PAYS_CLASSES);
     tally.expect("case: refused at a line above 255", 50);
     tally.expect("case: refused at a line above 1,000", 50);
     for cause in CAUSES {

@@ -75,6 +75,7 @@ pub fn longest_text() -> Vec<u8> {
             days: 7_300,
             factor: 2_020,
         }),
+        ten_pays: None,
         factors: factors(),
         debits: vec![debit(0), debit(1)],
     })

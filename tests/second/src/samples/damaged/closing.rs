@@ -1,23 +1,32 @@
 //! Refusals 12 to 14: what a case lacks at its end.
 
-use super::sheets::refused_at_end;
+use super::sheets::{refused_at_end, without_pays};
 use super::Damaged;
 use crate::calendar::{completed_by_last_day, Date};
 use crate::cases::Case;
 use crate::frames::{Debit, Factor};
 use crate::random::Random;
-use crate::samples::accepted::{self, whole_case};
+use crate::samples::accepted::{self, whole_case, whole_case_in};
 use crate::LARGEST_PAY;
 
-pub(super) fn no_final_pay(random: &mut Random) -> Damaged {
-    let mut case = whole_case(random);
-    case.final_pay = None;
+/// The text of a case in the section without its pays.
+fn no_pays(random: &mut Random, section: u64) -> Damaged {
+    let mut case = whole_case_in(random, section);
+    without_pays(&mut case);
     refused_at_end(&case)
+}
+
+pub(super) fn no_final_pay(random: &mut Random) -> Damaged {
+    no_pays(random, 1)
+}
+
+pub(super) fn no_ten_pays(random: &mut Random) -> Damaged {
+    no_pays(random, 2)
 }
 
 pub(super) fn twelve_first(random: &mut Random) -> Damaged {
     let mut case = whole_case(random);
-    case.final_pay = None;
+    without_pays(&mut case);
     case.factors.clear();
     case.debits[0].pot = LARGEST_PAY;
     case.debits[0].factor = 1;
@@ -43,10 +52,16 @@ fn without_factor(random: &mut Random, case: &mut Case, scheme: u64) {
     }
 }
 
-/// A case with every kind of frame whose schemes are early by different months.
+/// A case in either section with every kind of frame whose schemes are early by different months.
 fn case_of_two_months(random: &mut Random) -> Case {
+    let section = random.between(1, 2);
+    case_of_two_months_in(random, section)
+}
+
+/// The same in a given section.
+fn case_of_two_months_in(random: &mut Random, section: u64) -> Case {
     loop {
-        let case = whole_case(random);
+        let case = whole_case_in(random, section);
         if case.months_early(0) != case.months_early(1) {
             return case;
         }
@@ -59,9 +74,49 @@ pub(super) fn no_factor_2015(random: &mut Random) -> Damaged {
     refused_at_end(&case)
 }
 
-pub(super) fn no_factor_1995(random: &mut Random) -> Damaged {
-    let mut case = case_of_two_months(random);
+/// The text of a case in the section without the section's factor.
+fn no_section_factor(random: &mut Random, section: u64) -> Damaged {
+    let mut case = case_of_two_months_in(random, section);
     without_factor(random, &mut case, 1);
+    refused_at_end(&case)
+}
+
+pub(super) fn no_factor_1995(random: &mut Random) -> Damaged {
+    no_section_factor(random, 1)
+}
+
+pub(super) fn no_factor_2008(random: &mut Random) -> Damaged {
+    no_section_factor(random, 2)
+}
+
+/// A whole case of the 2008 Section that is so many months early there at least and at most.
+fn case_2008_early(random: &mut Random, least: u64, most: u64) -> (Case, u64) {
+    loop {
+        let case = whole_case_in(random, 2);
+        let months = case.months_early(1).expect("a section") as u64;
+        if (least..=most).contains(&months) {
+            return (case, months);
+        }
+    }
+}
+
+/// The one factor of the 2008 Section is for the months to 60, and not for those to 65.
+pub(super) fn factor_to_60(random: &mut Random) -> Damaged {
+    let (mut case, months) = case_2008_early(random, 61, 600);
+    case.factors.retain(|factor| factor.scheme == 0);
+    case.factors.push(Factor {
+        scheme: 1,
+        months: months - 60,
+        pension: random.near_ends(0, 1_000),
+        lump_sum: 0,
+    });
+    refused_at_end(&case)
+}
+
+/// Out at 60 or later, when the 1995 Section would reduce nothing, without the factor to 65.
+pub(super) fn no_factor_past_60(random: &mut Random) -> Damaged {
+    let (mut case, _) = case_2008_early(random, 1, 60);
+    case.factors.retain(|factor| factor.scheme == 0);
     refused_at_end(&case)
 }
 
@@ -84,7 +139,9 @@ pub(super) fn no_factor_of_nought(random: &mut Random) -> Damaged {
     case.debits.clear();
     case.years.clear();
     if random.one_in(2) {
-        case.final_pay.as_mut().expect("a final pay").days = 0;
+        let days_1995 = case.final_pay.as_mut().map(|pay| &mut pay.days);
+        let days_2008 = case.ten_pays.as_mut().map(|pays| &mut pays.days);
+        *days_1995.or(days_2008).expect("pays") = 0;
         without_factor(random, &mut case, 1);
     } else {
         without_factor(random, &mut case, 0);
@@ -175,7 +232,7 @@ pub(super) fn debit_past_2015(random: &mut Random) -> Damaged {
 }
 
 pub(super) fn debit_past_1995(random: &mut Random) -> Damaged {
-    let mut case = whole_case(random);
+    let mut case = whole_case_in(random, 1);
     let had = case.reduced_benefits().expect("a case with its factors");
     // Mostly the lump sum still has room for the debit.
     let room = had.lump_sum / 3 > had.pension_1995 || random.one_in(20);
@@ -188,8 +245,20 @@ pub(super) fn debit_past_1995(random: &mut Random) -> Damaged {
     }
 }
 
+pub(super) fn debit_past_2008(random: &mut Random) -> Damaged {
+    let mut case = whole_case_in(random, 2);
+    let had = case.reduced_benefits().expect("a case with its factors");
+    match debit_past(random, 1, had.pension_1995) {
+        Some(debit) => {
+            case.debits[1] = debit;
+            refused_at_end(&case)
+        }
+        None => debit_past_2008(random),
+    }
+}
+
 pub(super) fn debit_past_lump_sum(random: &mut Random) -> Damaged {
-    let mut case = whole_case(random);
+    let mut case = whole_case_in(random, 1);
     let had = case.reduced_benefits().expect("a case with its factors");
     let amount = had.lump_sum / 3 + 1;
     match accepted::debit_of(random, 1, amount) {

@@ -1,4 +1,4 @@
-//! Refusals 5 to 11: the fields of frames.
+//! Refusals 5 to 11 and 27: the fields of frames.
 
 use super::sheets::{places_of, refused_at, refused_frame};
 use super::{Damaged, FOUR, PAIR, PAST_PAY};
@@ -7,7 +7,7 @@ use crate::cases::{Case, MOST_YEARS};
 use crate::frames::{Debit, Factor};
 use crate::posts::{Post, MOST_POSTS};
 use crate::random::Random;
-use crate::samples::accepted::{self, whole_case};
+use crate::samples::accepted::{self, whole_case, whole_case_in};
 use crate::samples::writing::{debit_frame, factor_frame, frames_of, post_frame, year_frame};
 use crate::LARGEST_PAY;
 
@@ -240,11 +240,21 @@ fn with_lump_factor(random: &mut Random, case: &Case, place: usize, lump_sum: u6
     refused_at(random, &frames, place)
 }
 
-pub(super) fn lump_factor_1995(random: &mut Random) -> Damaged {
-    let case = whole_case(random);
+/// A text with a lump factor put into the last 05, which is the section's.
+fn with_last_lump_factor(random: &mut Random, section: u64, lump_sum: u64) -> Damaged {
+    let case = whole_case_in(random, section);
     let last = first_factor(&case) + case.factors.len() - 1;
-    let lump_sum = random.near_ends(1_001, PAIR);
     with_lump_factor(random, &case, last, lump_sum)
+}
+
+pub(super) fn lump_factor_1995(random: &mut Random) -> Damaged {
+    let lump_sum = random.near_ends(1_001, PAIR);
+    with_last_lump_factor(random, 1, lump_sum)
+}
+
+pub(super) fn lump_factor_2008(random: &mut Random) -> Damaged {
+    let lump_sum = random.near_ends(1, 1_000);
+    with_last_lump_factor(random, 2, lump_sum)
 }
 
 pub(super) fn lump_factor_2015(random: &mut Random) -> Damaged {

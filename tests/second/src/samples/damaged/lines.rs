@@ -1,10 +1,10 @@
 //! Refusals 1 to 4: the text, its lines, kinds and lengths, and their order.
 
-use super::sheets::{any_line, any_sheet, random_frame, refused_frame};
+use super::sheets::{any_line, any_sheet, random_frame, refused_frame, without_pays};
 use super::{Damaged, BYTE};
 use crate::frames::LARGEST_TEXT;
 use crate::random::Random;
-use crate::samples::accepted::{self, whole_case};
+use crate::samples::accepted::{self, whole_case, whole_case_in};
 use crate::samples::writing::{case_text, digits, frames_of, member_frame, text_of};
 
 pub(super) fn one_byte_over(random: &mut Random) -> Damaged {
@@ -120,8 +120,8 @@ pub(super) fn no_end(random: &mut Random) -> Damaged {
 
 pub(super) fn unknown_kind(random: &mut Random) -> Damaged {
     let mut sheet = any_sheet(random);
-    let above = random.near_ends(7, BYTE) as u8;
-    let kind = random.pick(&[0, above, above]);
+    let above = random.near_ends(9, BYTE) as u8;
+    let kind = random.pick(&[0, 7, above, above]);
     sheet.lines[sheet.place][..2].copy_from_slice(&digits(&[kind]));
     sheet.spoilt(random)
 }
@@ -174,6 +174,15 @@ pub(super) fn empty_text(_: &mut Random) -> Damaged {
 
 pub(super) fn no_member_first(random: &mut Random) -> Damaged {
     let kind = random.between(2, 6) as u8;
+    first_of_kind(random, kind)
+}
+
+pub(super) fn ten_pays_first(random: &mut Random) -> Damaged {
+    first_of_kind(random, 8)
+}
+
+/// A text whose first frame is of the kind, and no 01.
+fn first_of_kind(random: &mut Random, kind: u8) -> Damaged {
     let frame = random_frame(random, kind);
     let mut case = whole_case(random);
     if random.one_in(2) {
@@ -182,9 +191,22 @@ pub(super) fn no_member_first(random: &mut Random) -> Damaged {
     refused_frame(random, &case, 0, frame)
 }
 
-pub(super) fn no_section(random: &mut Random) -> Damaged {
-    let case = accepted::case_without_section(random);
-    let frame = random_frame(random, 4);
+pub(super) fn pays_of_other_section(
+    random: &mut Random,
+    kind: u8,
+    section: u64,
+    past: bool,
+) -> Damaged {
+    let mut case = match section {
+        0 => accepted::case_without_section(random),
+        _ => whole_case_in(random, section),
+    };
+    without_pays(&mut case);
+    let mut frame = random_frame(random, kind);
+    if past {
+        // The order is tried before the fields.
+        frame[1] = 0xFF;
+    }
     let before_factors = frames_of(&case).len() - case.factors.len() - case.debits.len();
     let place = random.between(1, before_factors as u64) as usize;
     refused_frame(random, &case, place, frame)

@@ -1,13 +1,20 @@
 //! Texts damaged without a cause named.
 
 use crate::random::Random;
-use crate::samples::accepted::{self, whole_case};
+use crate::samples::accepted::{self, whole_case_in};
 use crate::samples::writing::{case_text, frames_of, lines_of, text_of};
 
-/// Every text that differs from a short accepted one, with every kind of frame, in one byte, and
-/// every beginning of it.
+/// Every text that differs from a short accepted one in one byte, and every beginning of it: one in
+/// each section, with every kind of frame that may stand there.
 pub fn one_byte_changed(random: &mut Random) -> Vec<Vec<u8>> {
-    let mut case = whole_case(random);
+    let sections = [1, 2].into_iter();
+    sections
+        .flat_map(|section| one_byte_changed_in(random, section))
+        .collect()
+}
+
+fn one_byte_changed_in(random: &mut Random, section: u64) -> Vec<Vec<u8>> {
+    let mut case = whole_case_in(random, section);
     case.years.truncate(1);
     case.years[0].posts.truncate(1);
     for debit in &mut case.debits {
@@ -77,7 +84,8 @@ pub fn mixed_frames(random: &mut Random) -> Vec<u8> {
     }
     if random.one_in(2) {
         // By kind, so that only fields are out of order.
-        frames.sort_by_key(|frame| frame[0].max(3));
+        let place = |kind: u8| if kind == 8 { 4 } else { kind.max(3) };
+        frames.sort_by_key(|frame| place(frame[0]));
         frames.sort_by_key(|frame| frame[0] != 0x01);
     }
     text_of(&lines_of(&frames))

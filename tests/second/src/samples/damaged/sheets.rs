@@ -3,7 +3,7 @@
 use super::Damaged;
 use crate::cases::Case;
 use crate::random::Random;
-use crate::samples::accepted::{self, whole_case};
+use crate::samples::accepted::{self, whole_case, whole_case_in};
 use crate::samples::writing::{case_text, frames_of, lines_of, text_of};
 
 /// Lines with the place of the damage among them.
@@ -82,6 +82,15 @@ pub(super) fn refused_at_end(case: &Case) -> Damaged {
     }
 }
 
+/// An accepted case with a frame of the kind, in the section whose pays it is or in either.
+fn case_with_kind(random: &mut Random, kind: u8) -> Case {
+    match kind {
+        4 => whole_case_in(random, 1),
+        8 => whole_case_in(random, 2),
+        _ => whole_case(random),
+    }
+}
+
 /// A text with a number put into a field of one of the frames of a kind.
 pub(super) fn with_field(
     random: &mut Random,
@@ -90,16 +99,33 @@ pub(super) fn with_field(
     width: usize,
     number: u64,
 ) -> Damaged {
-    let mut frames = frames_of(&whole_case(random));
+    let mut frames = frames_of(&case_with_kind(random, kind));
     let places = places_of(&frames, kind);
     let place = random.pick(&places);
     frames[place][at..at + width].copy_from_slice(&number.to_be_bytes()[8 - width..]);
     refused_at(random, &frames, place)
 }
 
+/// A text with one of the frames of a kind cut, or filled up, to so many bytes.
+pub(super) fn with_length(random: &mut Random, kind: u8, length: usize) -> Damaged {
+    let mut frames = frames_of(&case_with_kind(random, kind));
+    let places = places_of(&frames, kind);
+    let place = random.pick(&places);
+    frames[place].resize(length, 0);
+    refused_at(random, &frames, place)
+}
+
+/// Takes the pays of its section out of a case.
+pub(super) fn without_pays(case: &mut Case) {
+    case.final_pay = None;
+    case.ten_pays = None;
+}
+
 /// A text with a frame of a kind put after one of the frames of another kind, out of order there.
+/// Pays are those of the member's section, if they are not put after other pays.
 pub(super) fn with_frame_after(random: &mut Random, earlier: u8, kind: u8) -> Damaged {
-    let mut case = whole_case(random);
+    let after_pays = [4, 8].contains(&earlier);
+    let mut case = case_with_kind(random, if after_pays { earlier } else { kind });
     let mut frame = random_frame(random, kind);
     if random.one_in(2) {
         // The order is tried before the fields.
@@ -107,8 +133,8 @@ pub(super) fn with_frame_after(random: &mut Random, earlier: u8, kind: u8) -> Da
             *byte = random.word() as u8;
         }
     }
-    if earlier != 4 && random.one_in(2) {
-        case.final_pay = None;
+    if !after_pays && random.one_in(2) {
+        without_pays(&mut case);
     }
     let frames = frames_of(&case);
     let places = places_of(&frames, earlier);
@@ -118,7 +144,7 @@ pub(super) fn with_frame_after(random: &mut Random, earlier: u8, kind: u8) -> Da
 
 /// A frame of the kind out of some accepted case.
 pub(super) fn random_frame(random: &mut Random, kind: u8) -> Vec<u8> {
-    let frames = frames_of(&whole_case(random));
+    let frames = frames_of(&case_with_kind(random, kind));
     let places = places_of(&frames, kind);
     frames[random.pick(&places)].clone()
 }
