@@ -101,7 +101,7 @@ static int print_change(const char *title, struct canyonsieve_charges charges)
     return 0;
 }
 
-/* A whole case. */
+/* A whole case. The pension of the member's section, the 1995 or the 2008, is in net_1995. */
 static int print_case(const char *title, const char *text, size_t length)
 {
     struct canyonsieve_outcome outcome = canyonsieve_case((const uint8_t *)text, length);
@@ -110,7 +110,7 @@ static int print_case(const char *title, const char *text, size_t length)
     if (refused("case", outcome.refusal, outcome.line))
         return 1;
     pounds("pension of the 2015 Scheme", outcome.net_2015, "a year");
-    pounds("pension of the 1995 Section", outcome.net_1995, "a year");
+    pounds("pension of the member's section", outcome.net_1995, "a year");
     pounds("lump sum", outcome.net_lump_sum, "once");
     pounds("the employer's charge", outcome.charge, "once");
     return 0;
@@ -125,6 +125,9 @@ int main(void)
         "0207DF0000\n"
         "0305DC08CA0027AC40\n"
         "03038408CA00124F80\n";
+    static const char ten_pays[] =
+        "0107B2040107F504010243\n"
+        "08002DC6C0002F4D600030D400003D0900003E8FA000401640003B82600039FBC0003875200036EE801C84\n";
     static const char without_factor[] = "0107AF0B0107EE0A110043\n";
 
     int failed = 0;
@@ -144,6 +147,8 @@ int main(void)
 
     failed |= print_case("25 hours at 26,000 pounds and 15 hours at 12,000 pounds, one year", printed,
                          sizeof printed - 1);
+    failed |= print_case("the 2008 Section, 7,300 days, 41,000 pounds on average in the best three years", ten_pays,
+                         sizeof ten_pays - 1);
 
     /* Refused, and meant to be: 49 months early, and no factor frame. */
     failed |= !print_case("49 months early without a factor", without_factor, sizeof without_factor - 1);

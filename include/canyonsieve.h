@@ -28,10 +28,10 @@ extern "C" {
 
 /* The version of this interface. It is raised by one when a function is added, when a struct or a frame changes, and
  * when a kind of frame is added. Code that was written for one version asks for it:
- *     #if CANYONSIEVE_VERSION != 3
+ *     #if CANYONSIEVE_VERSION != 4
  *     #error "another version of canyonsieve.h"
  *     #endif */
-#define CANYONSIEVE_VERSION 3
+#define CANYONSIEVE_VERSION 4
 
 /* The limits. */
 #define CANYONSIEVE_MAX_POSTS 16         /* posts of a year */
@@ -56,10 +56,11 @@ enum canyonsieve_refusal {
     CANYONSIEVE_LINE = 2,
     /* A frame of an unknown kind or of a wrong length. */
     CANYONSIEVE_FRAME = 3,
-    /* A frame out of order; a text without a member frame. */
+    /* A frame out of order, final pay or ten pays with another section than its own; a text without a member
+     * frame. */
     CANYONSIEVE_ORDER = 4,
     /* A year outside 1900 to 2100, a month outside 1 to 12, a day that its month does not have, retirement
-     * before birth, a section above 1, or a pension age outside 55 to 75. */
+     * before birth, a section above 2, or a pension age outside 55 to 75. */
     CANYONSIEVE_DATES = 5,
     /* An April year outside 2015 to 2100 or not the next, a revaluation above 2,000, or a 51st year. */
     CANYONSIEVE_YEAR = 6,
@@ -72,13 +73,14 @@ enum canyonsieve_refusal {
      * 16,425 days, or a factor of 0 or above 10,000 hundredths; in a change of employer also a pay with an employer
      * or a price increase above the same limits. */
     CANYONSIEVE_FINAL_PAY = 9,
-    /* A factor frame with a scheme that the member does not have, months outside 1 to 600, a factor above 1,000,
-     * a lump factor for the 2015 Scheme, or not after the previous one. */
+    /* A factor frame with a scheme that the member does not have (scheme 1 is the member's section), months outside 1
+     * to 600, a factor above 1,000, a lump factor for the 2015 Scheme or the 2008 Section, or not after the previous
+     * one. */
     CANYONSIEVE_FACTOR = 10,
     /* A debit frame with a scheme that the member does not have, a pot above 1,000,000,000 pence, factor 0, or not
      * after the previous one. */
     CANYONSIEVE_DEBIT = 11,
-    /* A section without a final pay frame. */
+    /* A section without its frame of pays: final pay in the 1995 Section, ten pays in the 2008 Section. */
     CANYONSIEVE_NO_FINAL_PAY = 12,
     /* Retirement before pension age without the factor for exactly that many months. */
     CANYONSIEVE_NO_FACTOR = 13,
@@ -96,7 +98,9 @@ enum canyonsieve_refusal {
     CANYONSIEVE_EARNED = 25,
     /* A change of employer in year 2 in which an employer has no days, both together have more than 366, or final
      * pay is not that of year 1. */
-    CANYONSIEVE_EMPLOYERS = 26
+    CANYONSIEVE_EMPLOYERS = 26,
+    /* In a frame of ten pays a pay above 1,000,000,000 pence, or more than 16,425 days. */
+    CANYONSIEVE_TEN_PAYS = 27
 };
 
 /* A refusal in words, for a message to a person; for a number that is no refusal, words that say so. Never NULL, and
@@ -114,7 +118,7 @@ CANYONSIEVE_CHECKED static inline const char *canyonsieve_refusal_words(uint64_t
     case CANYONSIEVE_FRAME:
         return "an unknown kind of frame or a wrong length";
     case CANYONSIEVE_ORDER:
-        return "a kind of frame out of order, or no member frame";
+        return "a kind of frame out of order or not of the member's section, or no member frame";
     case CANYONSIEVE_DATES:
         return "a date, section or pension age out of range, or retirement before birth";
     case CANYONSIEVE_YEAR:
@@ -126,11 +130,12 @@ CANYONSIEVE_CHECKED static inline const char *canyonsieve_refusal_words(uint64_t
     case CANYONSIEVE_FINAL_PAY:
         return "final pay out of range, or in a change of employer a pay or the price increase";
     case CANYONSIEVE_FACTOR:
-        return "a factor out of range or not after the previous one";
+        return "a factor out of range or not after the previous one, or of a scheme or lump sum that the member does "
+               "not have";
     case CANYONSIEVE_DEBIT:
-        return "a debit out of range or not after the previous one";
+        return "a debit out of range or not after the previous one, or of a scheme that the member does not have";
     case CANYONSIEVE_NO_FINAL_PAY:
-        return "a section without final pay";
+        return "a section without its final pay or ten pays";
     case CANYONSIEVE_NO_FACTOR:
         return "no factor for exactly the months early";
     case CANYONSIEVE_DEBIT_ABOVE:
@@ -147,6 +152,8 @@ CANYONSIEVE_CHECKED static inline const char *canyonsieve_refusal_words(uint64_t
         return "an earned pension above the pension";
     case CANYONSIEVE_EMPLOYERS:
         return "an employer without days, more than 366 days of both, or a final pay that is not that of year 1";
+    case CANYONSIEVE_TEN_PAYS:
+        return "ten pays or their days out of range";
     default:
         return "no refusal of this version";
     }
@@ -177,9 +184,9 @@ struct canyonsieve_outcome {
     uint64_t refusal;
     uint64_t line;
     uint64_t net_2015;     /* pension of the 2015 Scheme, for a year */
-    uint64_t net_1995;     /* pension of the 1995 Section, for a year */
-    uint64_t net_lump_sum; /* lump sum of the 1995 Section, once */
-    uint64_t charge;       /* the employer's final pay charge, once; not the member's */
+    uint64_t net_1995;     /* pension of the 1995 or the 2008 Section, for a year */
+    uint64_t net_lump_sum; /* lump sum, once; only the 1995 Section has one */
+    uint64_t charge;       /* the employer's final pay charge, once; not the member's; 0 in the 2008 Section */
 };
 
 /* The pensionable pay of a year with several posts, in pence for that year: the aggregate of the posts, with hours past
@@ -233,17 +240,18 @@ CANYONSIEVE_CHECKED struct canyonsieve_charges canyonsieve_change_of_employer(
     uint64_t allowance1, uint64_t controls, uint64_t days, uint64_t factor, uint64_t old_pay, uint64_t old_days,
     uint64_t new_pay, uint64_t new_days, uint64_t price_increase);
 
-/* A whole case: the net pension of the 2015 Scheme, the net pension and lump sum of the 1995 Section, and the
- * employer's final pay charge. The pensions are for a year, the lump sum and the charge once. No other division of the
- * hours of the posts and no other of the last three years as final pay would give a larger net pension of both schemes
- * together, or a larger net lump sum.
+/* A whole case: the net pension of the 2015 Scheme; the net pension of the 1995 or the 2008 Section, where the member
+ * has one; in the 1995 Section also the net lump sum and the employer's final pay charge. The pensions are for a year,
+ * the lump sum and the charge once. No other division of the hours of the posts, no other of the last three years as
+ * final pay and no other three consecutive years of the ten pays would give a larger net pension of both together, or a
+ * larger net lump sum.
  *
  * text: length bytes, lines of digits 0-9 and A-F, two to a byte, each line ended by a line feed and holding one frame;
  * docs/FRAMES.md has the frames. It stays the caller's, and nothing of it is kept. It may be NULL only where length is
  * 0.
  *
  * Refusals: 1, the text is too long (line 0); then line by line, the first line being 1, and the first line that is
- * refused ends the reading: 2, 3, 4, then 5 to 11 by the frame's own fields; at the end, line 0: 4, 12, 13, 14.
+ * refused ends the reading: 2, 3, 4, then 5 to 11 or 27 by the frame's own fields; at the end, line 0: 4, 12, 13, 14.
  *
  * It needs under 8 kilobytes of stack, the other calls under 4. */
 CANYONSIEVE_CHECKED struct canyonsieve_outcome canyonsieve_case(const uint8_t *text, size_t length);

@@ -2,6 +2,10 @@
  * figures of the paper. Prints how many checks there were; stops at the first that fails, with its line. */
 #include "canyonsieve.h"
 
+#if CANYONSIEVE_VERSION != 4
+#error "another version of canyonsieve.h"
+#endif
+
 #include <inttypes.h>
 #include <stdio.h>
 #include <stdlib.h>
@@ -438,13 +442,123 @@ static void cases(void)
     }
 }
 
+/* Members of the 2008 Section, born 1 April 1970: out at 67, and at 63, which is 48 months early in the 2015 Scheme and
+ * 24 in the section. Ten pays whose best three years average 41,000.00, with 7,300 days: a pension of 13,666.67. */
+#define MEMBER_2008 "0107B2040107F504010243\n"
+#define EARLY_2008 "0107B2040107F104010243\n"
+#define TEN_PAYS "08002DC6C0002F4D600030D400003D0900003E8FA000401640003B82600039FBC0003875200036EE801C84\n"
+#define MEMBER_1995 "0107B2040107F504010143\n"
+#define FINAL_PAY "04002DC6C0002F4D600030D400003D0900004100410041071C8407E4\n"
+#define FACTOR_2015 "0500003003840000\n"
+#define FACTOR_2008 "0501001803200000\n"
+
+/* What a member with ten pays gets, in the 2008 Section and without it. */
+static void ten_pays(int line, const char *member, const uint32_t pays[10], unsigned days, uint64_t refusal,
+                     uint64_t net_1995)
+{
+    const uint64_t expected[6] = {refusal, refusal == 0 ? 0 : 2, 0, net_1995, 0, 0};
+    char text[128];
+    size_t length = (size_t)sprintf(text, "%s08", member);
+
+    for (size_t i = 0; i < 10; i++)
+        length += (size_t)sprintf(text + length, "%08" PRIX32, pays[i]);
+    length += (size_t)sprintf(text + length, "%04X\n", days);
+    outcome(line, text, length, expected);
+}
+
+static void pensions_2008(void)
+{
+    static const uint32_t equal[10] = {3000000, 3000000, 3000000, 3000000, 3000000,
+                                       3000000, 3000000, 3000000, 3000000, 3000000};
+    static const uint32_t small[10] = {1, 1};
+    uint32_t most[10];
+
+    worked(__LINE__, MEMBER_2008 TEN_PAYS, 0, 1366667, 0, 0);
+    worked(__LINE__, MEMBER_2008 YEAR POSTS TEN_PAYS, 66667, 1366667, 0, 0);
+    ten_pays(__LINE__, MEMBER_2008, equal, 7300, 0, 1000000);
+    /* The average of 2 pence in three years is 1, and so is the pension of 0.75. */
+    ten_pays(__LINE__, MEMBER_2008, small, 16425, 0, 1);
+    ten_pays(__LINE__, MEMBER_2008, small, 0, 0, 0);
+    /* The best three years at each place. */
+    for (size_t first = 0; first < 8; first++) {
+        uint32_t pays[10] = {0};
+        pays[first] = 4000000;
+        pays[first + 1] = 4300000;
+        pays[first + 2] = 4000000;
+        ten_pays(__LINE__, MEMBER_2008, pays, 7300, 0, 1366667);
+    }
+    /* Each limit, and past it. */
+    for (size_t i = 0; i < 10; i++)
+        most[i] = CANYONSIEVE_MAX_PAY;
+    ten_pays(__LINE__, MEMBER_2008, most, 16425, 0, 750000000);
+    ten_pays(__LINE__, MEMBER_2008, most, 16426, CANYONSIEVE_TEN_PAYS, 0);
+    ten_pays(__LINE__, MEMBER, most, 16426, CANYONSIEVE_ORDER, 0);
+    ten_pays(__LINE__, MEMBER_1995, most, 16426, CANYONSIEVE_ORDER, 0);
+    for (size_t i = 0; i < 10; i++) {
+        most[i]++;
+        ten_pays(__LINE__, MEMBER_2008, most, 16425, CANYONSIEVE_TEN_PAYS, 0);
+        ten_pays(__LINE__, MEMBER, most, 16425, CANYONSIEVE_ORDER, 0);
+        most[i] = UINT32_MAX;
+        ten_pays(__LINE__, MEMBER_2008, most, 0, CANYONSIEVE_TEN_PAYS, 0);
+        most[i] = CANYONSIEVE_MAX_PAY;
+    }
+}
+
+/* Their factors and debits. */
+static void cases_2008(void)
+{
+    /* Early by 65: 0.8 of 13,666.67. */
+    worked(__LINE__, EARLY_2008 TEN_PAYS FACTOR_2015 FACTOR_2008, 0, 1093334, 0, 0);
+    refused(__LINE__, EARLY_2008 TEN_PAYS FACTOR_2015, CANYONSIEVE_NO_FACTOR, 0);
+    refused(__LINE__, EARLY_2008 TEN_PAYS FACTOR_2008, CANYONSIEVE_NO_FACTOR, 0);
+    refused(__LINE__, EARLY_2008 TEN_PAYS FACTOR_2015 "0501001803200001\n", CANYONSIEVE_FACTOR, 4);
+    refused(__LINE__, MEMBER FACTOR_2008, CANYONSIEVE_FACTOR, 2);
+    refused(__LINE__, MEMBER_2008 TEN_PAYS "0502001803200000\n", CANYONSIEVE_FACTOR, 3);
+    /* Debits of 495.05, of all of it, and of a penny more. */
+    worked(__LINE__, MEMBER_2008 TEN_PAYS "0601000F424007E4\n", 0, 1317162, 0, 0);
+    worked(__LINE__, MEMBER_2008 TEN_PAYS "06010014DA8B0064\n", 0, 0, 0, 0);
+    refused(__LINE__, MEMBER_2008 TEN_PAYS "06010014DA8C0064\n", CANYONSIEVE_DEBIT_ABOVE, 0);
+    refused(__LINE__, MEMBER_2008 TEN_PAYS "06013B9ACA000001\n", CANYONSIEVE_DEBIT_ABOVE, 0);
+    refused(__LINE__, MEMBER "0601000F424007E4\n", CANYONSIEVE_DEBIT, 2);
+    refused(__LINE__, MEMBER_2008 TEN_PAYS "0602000F424007E4\n", CANYONSIEVE_DEBIT, 3);
+}
+
+/* Each section has its own frame of pays, one of it, in its place and of its length. */
+static void frames_2008(void)
+{
+    refused(__LINE__, "0107B2040107F504010343\n", CANYONSIEVE_DATES, 1);
+    refused(__LINE__, MEMBER_2008, CANYONSIEVE_NO_FINAL_PAY, 0);
+    refused(__LINE__, EARLY_2008, CANYONSIEVE_NO_FINAL_PAY, 0);
+    refused(__LINE__, MEMBER_2008 FINAL_PAY, CANYONSIEVE_ORDER, 2);
+    refused(__LINE__, MEMBER_1995 TEN_PAYS, CANYONSIEVE_ORDER, 2);
+    refused(__LINE__, MEMBER TEN_PAYS, CANYONSIEVE_ORDER, 2);
+    refused(__LINE__, TEN_PAYS, CANYONSIEVE_ORDER, 1);
+    refused(__LINE__, MEMBER_2008 TEN_PAYS TEN_PAYS, CANYONSIEVE_ORDER, 3);
+    refused(__LINE__, MEMBER_2008 TEN_PAYS FINAL_PAY, CANYONSIEVE_ORDER, 3);
+    refused(__LINE__, MEMBER_1995 FINAL_PAY TEN_PAYS, CANYONSIEVE_ORDER, 3);
+    refused(__LINE__, MEMBER_2008 TEN_PAYS YEAR, CANYONSIEVE_ORDER, 3);
+    refused(__LINE__, MEMBER_2008 YEAR TEN_PAYS POSTS, CANYONSIEVE_ORDER, 4);
+    refused(__LINE__, EARLY_2008 FACTOR_2015 TEN_PAYS, CANYONSIEVE_ORDER, 3);
+    refused(__LINE__, MEMBER_2008 "0601000F424007E4\n" TEN_PAYS, CANYONSIEVE_ORDER, 3);
+    /* 42 and 44 bytes, and the length of another kind. */
+    refused(__LINE__,
+            MEMBER_2008 "08002DC6C0002F4D600030D400003D0900003E8FA000401640003B82600039FBC0003875200036EE801C\n",
+            CANYONSIEVE_FRAME, 2);
+    refused(__LINE__,
+            MEMBER_2008 "08002DC6C0002F4D600030D400003D0900003E8FA000401640003B82600039FBC0003875200036EE801C8400\n",
+            CANYONSIEVE_FRAME, 2);
+    refused(__LINE__, MEMBER_2008 "0801001803200000\n", CANYONSIEVE_FRAME, 2);
+    refused(__LINE__, MEMBER "0801001803200000\n", CANYONSIEVE_FRAME, 2);
+}
+
 /* Each refusal has words of its own, and any other number the same words. */
 static void words(void)
 {
-    static const uint64_t others[] = {15, 20, 27, 255, (UINT64_C(1) << 32) + 7, UINT64_MAX};
+    static const uint64_t others[] = {15, 20, 28, 255, (UINT64_C(1) << 32) + 7, UINT64_MAX};
     const char *none = canyonsieve_refusal_words(UINT64_C(1) << 40);
 
-    for (uint64_t n = 0; n <= CANYONSIEVE_EMPLOYERS; n++) {
+    same(__LINE__, "refusal of ten pays", CANYONSIEVE_TEN_PAYS, 27);
+    for (uint64_t n = 0; n <= CANYONSIEVE_TEN_PAYS; n++) {
         int is_refusal = n <= CANYONSIEVE_DEBIT_ABOVE || n >= CANYONSIEVE_POST_COUNT;
         same(__LINE__, "words of its own", strcmp(canyonsieve_refusal_words(n), none) != 0, (uint64_t)is_refusal);
         for (uint64_t m = 0; is_refusal && m < n; m++)
@@ -499,6 +613,9 @@ int main(void)
     dates();
     abatements();
     cases();
+    pensions_2008();
+    cases_2008();
+    frames_2008();
     words();
     limits();
     printf("%u checks passed\n", checks);

@@ -35,13 +35,15 @@ static void text(const uint8_t *bytes, size_t length)
     struct canyonsieve_outcome o = canyonsieve_case(bytes, length);
     struct canyonsieve_outcome again = canyonsieve_case(bytes, length);
     claim(memcmp(&o, &again, sizeof o) == 0);
-    claim(o.refusal <= 14);
+    claim(o.refusal <= 14 || o.refusal == 27);
     if (o.refusal == 0)
         claim(o.line == 0);
     else
         claim(o.net_2015 == 0 && o.net_1995 == 0 && o.net_lump_sum == 0 && o.charge == 0);
-    if (o.refusal == 1 || o.refusal >= 12)
+    if (o.refusal == 1 || (o.refusal >= 12 && o.refusal <= 14))
         claim(o.line == 0);
+    else if (o.refusal != 0 && o.refusal != 4)
+        claim(o.line != 0);
 }
 
 static void posts(const uint8_t *bytes, size_t length, uint64_t *places, size_t many)
