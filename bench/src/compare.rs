@@ -1,6 +1,7 @@
 //! The twin held against the library: the refusal, the line and the amounts of every text, and
 //! every place of the posts call.
 
+use crate::texts::section_2008;
 use crate::twin;
 use second::engine;
 use second::random::Random;
@@ -8,6 +9,7 @@ use second::samples::calls::{any_posts_call, posts_call, POSTS_CAUSES};
 use second::samples::damaged::mixed::{mixed_frames, one_byte_changed, random_damage};
 use second::samples::damaged::CAUSES;
 use second::samples::{accepted, writing};
+use std::collections::BTreeMap;
 use std::fmt::Debug;
 use std::path::Path;
 use std::process::exit;
@@ -20,6 +22,7 @@ const DAMAGED: u64 = 20_000;
 const MIXED: u64 = 10_000;
 const FOR_EACH_CAUSE: u64 = 50;
 const POSTS_CALLS: u64 = 10_000;
+const SECTION_2008: u64 = 10_000;
 
 /// Prints an input on which the two differ, and ends.
 fn fail(call: &str, input: &[u8], library: impl Debug, twin: impl Debug) -> ! {
@@ -61,16 +64,14 @@ fn compare_cases(words: &str, texts: impl IntoIterator<Item = Vec<u8>>) {
 }
 
 fn print_counts(words: &str, refusals: impl Iterator<Item = u64>) {
-    let mut counts = [0_u64; 26];
+    let mut counts: BTreeMap<u64, u64> = BTreeMap::new();
     for refusal in refusals {
-        counts[refusal as usize] += 1;
+        *counts.entry(refusal).or_default() += 1;
     }
-    let total: u64 = counts.iter().sum();
+    let total: u64 = counts.values().sum();
     print!("{total:>8}  {words}; by refusal");
-    for (refusal, count) in counts.iter().enumerate() {
-        if *count > 0 {
-            print!(" {refusal}: {count}");
-        }
+    for (refusal, count) in counts {
+        print!(" {refusal}: {count}");
     }
     println!();
 }
@@ -151,10 +152,26 @@ fn compare_posts_calls(random: &mut Random) {
     print_counts("posts calls refused by each cause", refused);
 }
 
+/// Texts of the 2008 Section, those of each cause refused by its number.
+fn compare_section_2008(random: &mut Random) {
+    let drawn = (0..SECTION_2008).map(|_| section_2008::drawn(random));
+    compare_cases("texts of the 2008 Section", drawn);
+    let refused = (0..FOR_EACH_CAUSE).flat_map(|_| section_2008::refused(random));
+    let refusals = refused.map(|(refusal, text)| {
+        let given = compare_case(&text);
+        if given != refusal {
+            fail("a text of the 2008 Section", &text, given, refusal);
+        }
+        given
+    });
+    print_counts("texts of the 2008 Section refused by each cause", refusals);
+}
+
 /// Compares all but the inputs that are timed.
 pub fn compare_all(random: &mut Random) -> io::Result<()> {
     compare_examples()?;
     compare_samples(random);
     compare_posts_calls(random);
+    compare_section_2008(random);
     Ok(())
 }

@@ -1,4 +1,7 @@
-//! Texts and lists of posts drawn from a fixed seed, every one different and none refused.
+//! Texts and lists of posts drawn from a fixed seed, every one different and none refused; and,
+//! only to be compared, texts of the 2008 Section.
+
+pub mod section_2008;
 
 use second::benefits::FinalPay;
 use second::calendar::Date;

@@ -1,4 +1,5 @@
-//! The twin: document 01's text worked for speed, with the library's answers, none of its proofs.
+//! The twin: a text of document 01, with the landed requests of document 02, worked for speed: the
+//! library's answers, none of its proofs.
 //!
 //! Each byte is read once, nothing is allocated, a post is put into its year's ranking as it comes,
 //! and a year is worked when the next one begins or the text ends. Any bytes whatever give an
@@ -15,6 +16,9 @@ pub use posts::posts;
 
 /// The largest pay or pot in pence.
 const LARGEST_PAY: u64 = 1_000_000_000;
+
+/// The most days of service.
+const MOST_DAYS: u64 = 16_425;
 
 /// A number divided and rounded, a half upward.
 #[inline(always)]
@@ -35,6 +39,7 @@ fn unless(passes: bool, refusal: u64) -> Result<(), u64> {
 #[cfg(test)]
 mod tests {
     use super::{case, posts};
+    use second::Outcome;
 
     const PRINTED: &[u8] =
         b"0107B2040107F504010043\n0207DF0000\n0305DC08CA0027AC40\n03038408CA00124F80\n";
@@ -62,6 +67,97 @@ mod tests {
         assert_eq!((outcome.refusal, outcome.line), (3, 2));
         let outcome = case(b"0107B2040107F504010043\n02078\nDF00\n");
         assert_eq!((outcome.refusal, outcome.line), (2, 2));
+    }
+
+    /// A member of the 2008 Section who retires at 67, and 7,300 days of which the best three years
+    /// average £41,000.
+    const MEMBER_2008: &str = "0107B2040107F504010243\n";
+    const TEN_PAYS: &str = "08002DC6C0002F4D600030D400003D0900003E8FA000401640\
+                            003B82600039FBC0003875200036EE801C84\n";
+
+    fn assert_given(lines: &[&str], outcome: Outcome) {
+        assert_eq!(case(lines.concat().as_bytes()), outcome, "{lines:?}");
+    }
+
+    /// Worked, with a 2008 pension and no other amount.
+    fn assert_pension_2008(lines: &[&str], net_1995: u64) {
+        let outcome = Outcome {
+            net_1995,
+            ..Outcome::default()
+        };
+        assert_given(lines, outcome);
+    }
+
+    fn assert_refused(lines: &[&str], refusal: u64, line: u64) {
+        let outcome = Outcome {
+            refusal,
+            line,
+            ..Outcome::default()
+        };
+        assert_given(lines, outcome);
+    }
+
+    /// The line of an 08.
+    fn ten_pays(pays: [u64; 10], days: u64) -> String {
+        let pays: String = pays.iter().map(|pay| format!("{pay:08X}")).collect();
+        format!("08{pays}{days:04X}\n")
+    }
+
+    #[test]
+    fn the_2008_pension_is_of_the_best_three_consecutive_years() {
+        assert_pension_2008(&[MEMBER_2008, TEN_PAYS], 1_366_667);
+        for years in 0..8 {
+            let mut pays = [1_000_000; 10];
+            pays[years..years + 3].copy_from_slice(&[4_000_000, 4_300_000, 4_000_000]);
+            let frame = ten_pays(pays, 7_300);
+            assert_pension_2008(&[MEMBER_2008, &frame], 1_366_667);
+        }
+        let equal = ten_pays([3_000_000; 10], 7_300);
+        assert_pension_2008(&[MEMBER_2008, &equal], 1_000_000);
+        // The average of 2 pence in three years is 1, and 0.75 of a penny is 1.
+        let small = ten_pays([1, 1, 0, 0, 0, 0, 0, 0, 0, 0], 16_425);
+        assert_pension_2008(&[MEMBER_2008, &small], 1);
+        let largest = ten_pays([1_000_000_000; 10], 16_425);
+        assert_pension_2008(&[MEMBER_2008, &largest], 750_000_000);
+    }
+
+    #[test]
+    fn the_2008_section_is_reduced_from_65_and_has_its_debit() {
+        let early = "0107B2040107F104010243\n";
+        let factor_2015 = "0500003003840000\n";
+        let factor = "0501001803200000\n";
+        assert_pension_2008(&[early, TEN_PAYS, factor_2015, factor], 1_093_334);
+        assert_refused(&[early, TEN_PAYS, factor_2015], 13, 0);
+        let lump_factor = "0501001803200001\n";
+        assert_refused(&[early, TEN_PAYS, lump_factor], 10, 3);
+        assert_pension_2008(&[MEMBER_2008, TEN_PAYS, "0601000F424007E4\n"], 1_317_162);
+        assert_refused(&[MEMBER_2008, TEN_PAYS, "06013B9ACA000001\n"], 14, 0);
+    }
+
+    #[test]
+    fn a_section_has_its_own_pay_frame() {
+        let no_section = "0107B2040107F504010043\n";
+        let section_1995 = "0107B2040107F504010143\n";
+        let final_pay = "04002DC6C0002F4D600030D400003D0900004100410041071C8407E4\n";
+        assert_refused(&["0107B2040107F504010343\n"], 5, 1);
+        assert_refused(&[MEMBER_2008], 12, 0);
+        assert_refused(&[MEMBER_2008, final_pay], 4, 2);
+        assert_refused(&[section_1995, TEN_PAYS], 4, 2);
+        assert_refused(&[no_section, TEN_PAYS], 4, 2);
+        assert_refused(&[MEMBER_2008, TEN_PAYS, TEN_PAYS], 4, 3);
+        assert_refused(&[MEMBER_2008, TEN_PAYS, "0207DF0000\n"], 4, 3);
+        assert_refused(&[MEMBER_2008, "0500003003840000\n", TEN_PAYS], 4, 3);
+        let short = [&TEN_PAYS[..84], "\n"].concat();
+        assert_refused(&[MEMBER_2008, &short], 3, 2);
+        for year in 0..10 {
+            let mut pays = [1_000_000_000; 10];
+            pays[year] += 1;
+            let frame = ten_pays(pays, 16_425);
+            assert_refused(&[MEMBER_2008, &frame], 27, 2);
+            assert_refused(&[no_section, &frame], 4, 2);
+        }
+        let days = ten_pays([0; 10], 16_426);
+        assert_refused(&[MEMBER_2008, &days], 27, 2);
     }
 
     #[test]

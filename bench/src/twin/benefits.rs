@@ -1,10 +1,11 @@
 //! The steps on amounts.
 
-use super::rounded;
+use super::{rounded, unless, LARGEST_PAY, MOST_DAYS};
 use second::benefits::FinalPay;
 
-/// Service days that give a whole pay as 1995 pension.
+/// Service days that give a whole pay as 1995 pension, and as 2008 pension.
 const DAYS_TO_A_PAY: u64 = 29_200;
+const DAYS_TO_A_PAY_2008: u64 = 21_900;
 
 /// The 2015 pension after one more year.
 #[inline(always)]
@@ -47,6 +48,28 @@ fn allowed(final_pay: &FinalPay, year: usize) -> u64 {
         base = allowed.min(final_pay.pays[place]);
     }
     allowed
+}
+
+/// Ten pays, oldest first, and service days of the 2008 Section.
+pub struct TenPays {
+    pub pays: [u64; 10],
+    pub days: u64,
+}
+
+impl TenPays {
+    /// Refusal 27.
+    pub fn tried(&self) -> Result<(), u64> {
+        unless(self.pays.iter().all(|&pay| pay <= LARGEST_PAY), 27)?;
+        unless(self.days <= MOST_DAYS, 27)
+    }
+
+    /// The pension before reduction, by the rounded average of the best three consecutive years.
+    /// Which of equal threes is taken shows in no amount.
+    pub fn pension(&self) -> u64 {
+        let sums = self.pays.windows(3).map(|years| years.iter().sum());
+        let best: u64 = sums.max().unwrap_or_default();
+        rounded(rounded(best, 3) * self.days, DAYS_TO_A_PAY_2008)
+    }
 }
 
 /// The 1995 pension before reduction and the employer's charge.

@@ -1,6 +1,6 @@
 //! A case, worked line by line.
 
-use super::benefits::{after_year, pension_and_charge, pension_debit, reduced};
+use super::benefits::{after_year, pension_and_charge, pension_debit, reduced, TenPays};
 use super::calendar::{completed_months, try_dates, Date};
 use super::posts::{Post, YearPosts};
 use super::reading::{line, why_no_frame};
@@ -12,8 +12,42 @@ use second::Outcome;
 const LARGEST_TEXT: usize = 32_768;
 const MOST_YEARS: u64 = 50;
 
-/// The pension age of the 1995 Section.
-const SECTION_PENSION_AGE: i64 = 60;
+/// The section that a member has besides the 2015 Scheme.
+#[derive(Clone, Copy, PartialEq, Eq)]
+enum Section {
+    None,
+    Of1995,
+    Of2008,
+}
+
+impl Section {
+    /// The section of its number in an 01, or refusal 5.
+    fn numbered(number: u64) -> Result<Section, u64> {
+        match number {
+            0 => Ok(Section::None),
+            1 => Ok(Section::Of1995),
+            2 => Ok(Section::Of2008),
+            _ => Err(5),
+        }
+    }
+
+    /// The age to which its months early are counted.
+    fn pension_age(self) -> Option<i64> {
+        match self {
+            Section::None => None,
+            Section::Of1995 => Some(60),
+            Section::Of2008 => Some(65),
+        }
+    }
+
+    /// How many times its pension the lump sum is; the lump sum's debit likewise.
+    fn lump_sums(self) -> u64 {
+        match self {
+            Section::Of1995 => 3,
+            Section::None | Section::Of2008 => 0,
+        }
+    }
+}
 
 /// What a case has come to, in the order of its frames.
 #[derive(Clone, Copy, PartialEq, Eq, PartialOrd, Ord)]
@@ -21,7 +55,7 @@ enum Stage {
     Nothing,
     Member,
     Years,
-    FinalPay,
+    SectionPay,
     Factors,
     Debits,
 }
@@ -51,8 +85,8 @@ impl Scheme {
 
 struct Case {
     stage: Stage,
-    has_section: bool,
-    /// The 2015 Scheme and the 1995 Section.
+    section: Section,
+    /// The 2015 Scheme and the section, whose months early are 0 where there is none.
     schemes: [Scheme; 2],
     years: u64,
     april: u64,
@@ -60,8 +94,8 @@ struct Case {
     posts: YearPosts,
     /// The 2015 pension of the years before the last.
     pension_2015: u64,
-    /// The 1995 pension before reduction and the charge.
-    final_pay: Option<(u64, u64)>,
+    /// The section's pension before reduction and the charge, of the 04 or 08.
+    section_pay: Option<(u64, u64)>,
     /// The scheme and months of the last 05 in one number, and the scheme of the last 06, from 1.
     last_factor: u64,
     last_debit: u64,
@@ -71,14 +105,14 @@ impl Case {
     fn new() -> Case {
         Case {
             stage: Stage::Nothing,
-            has_section: false,
+            section: Section::None,
             schemes: [Scheme::default(); 2],
             years: 0,
             april: 0,
             revaluation: 0,
             posts: YearPosts::new(),
             pension_2015: 0,
-            final_pay: None,
+            section_pay: None,
             last_factor: 0,
             last_debit: 0,
         }
@@ -94,6 +128,7 @@ impl Case {
             [b'0', b'4', ..] => self.take_final_pay(text),
             [b'0', b'5', ..] => self.take_factor(text),
             [b'0', b'6', ..] => self.take_debit(text),
+            [b'0', b'8', ..] => self.take_ten_pays(text),
             _ => Err(why_no_frame(text)),
         }
     }
@@ -107,12 +142,14 @@ impl Case {
         let (birth, retirement, section, pension_age) = frame;
         unless(self.stage == Stage::Nothing, 4)?;
         try_dates(birth, retirement)?;
-        unless(section <= 1, 5)?;
+        let section = Section::numbered(section)?;
         unless((55..=75).contains(&pension_age), 5)?;
         let age = completed_months(birth, retirement);
         self.schemes[0].months_early = 12 * pension_age as i64 - age;
-        self.schemes[1].months_early = 12 * SECTION_PENSION_AGE - age;
-        self.has_section = section == 1;
+        if let Some(pension_age) = section.pension_age() {
+            self.schemes[1].months_early = 12 * pension_age - age;
+        }
+        self.section = section;
         self.stage = Stage::Member;
         Ok(after)
     }
@@ -162,17 +199,39 @@ impl Case {
             days: fields.number(2),
             factor: fields.number(2),
         })?;
-        let in_order = matches!(self.stage, Stage::Member | Stage::Years);
-        unless(in_order && self.has_section, 4)?;
+        self.try_pay_of(Section::Of1995)?;
         final_pay.tried()?;
-        self.final_pay = Some(pension_and_charge(&final_pay));
-        self.stage = Stage::FinalPay;
+        self.section_pay = Some(pension_and_charge(&final_pay));
+        self.stage = Stage::SectionPay;
         Ok(after)
+    }
+
+    fn take_ten_pays<'t>(&mut self, text: &'t [u8]) -> Result<&'t [u8], u64> {
+        let (ten_pays, after) = line::<87, _>(text, |fields| TenPays {
+            pays: [4; 10].map(|width| fields.number(width)),
+            days: fields.number(2),
+        })?;
+        self.try_pay_of(Section::Of2008)?;
+        ten_pays.tried()?;
+        self.section_pay = Some((ten_pays.pension(), 0));
+        self.stage = Stage::SectionPay;
+        Ok(after)
+    }
+
+    /// Refusal 4 of the pay frame of a section.
+    fn try_pay_of(&self, section: Section) -> Result<(), u64> {
+        let in_order = matches!(self.stage, Stage::Member | Stage::Years);
+        unless(in_order && self.section == section, 4)
     }
 
     /// Whether a factor or debit may name the scheme.
     fn has_scheme(&self, scheme: u64) -> bool {
-        scheme == 0 || (scheme == 1 && self.has_section)
+        scheme == 0 || (scheme == 1 && self.section != Section::None)
+    }
+
+    /// Whether the scheme has a lump sum.
+    fn has_lump_sum(&self, scheme: u64) -> bool {
+        scheme == 1 && self.section == Section::Of1995
     }
 
     fn take_factor<'t>(&mut self, text: &'t [u8]) -> Result<&'t [u8], u64> {
@@ -184,7 +243,8 @@ impl Case {
         unless((Stage::Member..=Stage::Factors).contains(&self.stage), 4)?;
         unless(self.has_scheme(scheme), 10)?;
         unless((1..=600).contains(&months), 10)?;
-        unless(pension <= 1_000 && lump_sum <= 1_000 * scheme, 10)?;
+        unless(pension <= 1_000 && lump_sum <= 1_000, 10)?;
+        unless(lump_sum == 0 || self.has_lump_sum(scheme), 10)?;
         let place = 1_000 * scheme + months;
         unless(place > self.last_factor, 10)?;
         let scheme = &mut self.schemes[scheme as usize];
@@ -214,22 +274,25 @@ impl Case {
     /// The outcome, or the refusal of the closing.
     fn close(&self) -> Result<Outcome, u64> {
         unless(self.stage != Stage::Nothing, 4)?;
-        unless(!self.has_section || self.final_pay.is_some(), 12)?;
+        unless(
+            self.section == Section::None || self.section_pay.is_some(),
+            12,
+        )?;
         let [scheme, section] = &self.schemes;
         let (factor, _) = scheme.wanted_factors()?;
-        let (section_factor, lump_factor) = if self.has_section {
-            section.wanted_factors()?
-        } else {
-            UNREDUCED
-        };
-        let (pension_1995, charge) = self.final_pay.unwrap_or_default();
+        let (section_factor, lump_factor) = section.wanted_factors()?;
+        let (pension, charge) = self.section_pay.unwrap_or_default();
+        let lump_sums = self.section.lump_sums();
         let less = |amount: u64, debit: u64| amount.checked_sub(debit).ok_or(14_u64);
         Ok(Outcome {
             refusal: 0,
             line: 0,
             net_2015: less(reduced(self.pension_after_year(), factor), scheme.debit)?,
-            net_1995: less(reduced(pension_1995, section_factor), section.debit)?,
-            net_lump_sum: less(reduced(3 * pension_1995, lump_factor), 3 * section.debit)?,
+            net_1995: less(reduced(pension, section_factor), section.debit)?,
+            net_lump_sum: less(
+                reduced(lump_sums * pension, lump_factor),
+                lump_sums * section.debit,
+            )?,
             charge,
         })
     }
