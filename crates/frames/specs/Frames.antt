@@ -56,7 +56,7 @@ finalPayIn bytes =
       factor = twoAt bytes 26;
     }
 
--- "05 factor: scheme 1 (0 the 2015, 1 the 1995), months 2, pension factor 2, lump factor 2, both in thousandths."
+-- "05 factor: scheme 1 (0 the 2015, 1 the 1995), months 2, pension factor 2, lump factor 2, both in thousandths."; of a member of section 2 "Scheme 1 [..] means this section"
 unfoldable pub factorIn : List ℕ → Factor
 factorIn bytes =
     record { scheme = oneAt bytes 1; months = record { 0 = twoAt bytes 2 }; pension = twoAt bytes 4; lump = twoAt bytes 6 }
