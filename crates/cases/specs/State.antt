@@ -34,7 +34,7 @@ noDate = record { year = 0; month = 0; day = 0 }
 
 -- a member with noughts
 abbrev pub noMember : Member
-noMember = record { birth = noDate; retirement = noDate; section = 0; «pension_age» = 0 }
+noMember = record { birth = noDate; retirement = noDate; section = 0; «pension_age» = 0; «section_pension_age» = 0 }
 
 -- noughts throughout
 unfoldable pub start : Case

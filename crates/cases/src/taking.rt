@@ -49,6 +49,7 @@ fn no_member() -> Member
         retirement: none,
         section: 0,
         pension_age: 0,
+        section_pension_age: 0,
     }
 }
 
@@ -72,7 +73,7 @@ impl Case {
         }
     }
 
-    // An 01 taken in its order: 5, or the member with the months early of each scheme.
+    // An 01 taken in its order: 5 or 28, or the member with the months early of each scheme.
     fn take_member(self, m: Member) -> Taken
         ensures { λ r. ⌜ r ≡ takenInOrder self (Frame.Member m) ⌝ }
     {

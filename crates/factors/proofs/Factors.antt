@@ -20,10 +20,10 @@ use Rattle.calendar.proofs.CountedMonths.{completed, late-months}
 use Rattle.benefits.specs.Steps.{reduced}
 use Rattle.frames.specs.declared.Member.{Member}
 use Rattle.frames.specs.declared.Factor.{Factor}
-use Rattle.frames.specs.Limits.{memberRefusal, isSection, factorRefusal}
+use Rattle.frames.specs.Limits.{sectionPensionAge, memberRefusal, isSection, factorRefusal}
 use Rattle.frames.proofs.Accepted.{member-good, factor-good}
 use Rattle.rules.specs.Rules.{given, lastOf, afterFactor}
-use Rattle.rules.specs.Working.{ifPositive, early, sectionPensionAge, early2015, early1995, isFor, factorFor, pensionFactor, lumpFactor, factorThere, reducedIf}
+use Rattle.rules.specs.Working.{ifPositive, early, early2015, early1995, isFor, factorFor, pensionFactor, lumpFactor, factorThere, reducedIf}
 use Rattle.rules.proofs.Ends.{Ended, empty, ends, ended, last-end, factor-end, or-else}
 use Rattle.rules.specs.declared.SchemeAmounts.{SchemeAmounts}
 use Rattle.factors.specs.declared.PreviousFactor.{PreviousFactor}
@@ -51,9 +51,14 @@ module _ {given : MonthsEarly} {months : Months} {exact : ℤ} (is : monthsOf gi
 at-no-age : (birth retirement : Date) (n : ℕ) → pos n ≡ completedMonths birth retirement → 0 ≡ ifPositive (monthsEarly birth retirement 0)
 at-no-age birth retirement n e = rw (← (late-months birth retirement 0 n e (omega arith))) (late-none (n - 12 * 0))
 
+-- the byte that 28 lets pass is the pension age of the section: months early are those to it
+pub early-recorded : (m : Member) → memberRefusal m ≡ 0 → early1995 m ≡ early m (sectionPensionAge (m .section))
+early-recorded m e = ap (early m) (member-good m e .age-of-section)
+
 pub early-none : (m : Member) → memberRefusal m ≡ 0 → m .section ≡ 0 → 0 ≡ early1995 m
 unfolding early
-early-none m e unsectioned = rw unsectioned (at-no-age _ _ _ (sym (completed _ _ (member-good m e .dates))))
+early-none m e unsectioned =
+    rw (early-recorded m e, unsectioned) (at-no-age _ _ _ (sym (completed _ _ (member-good m e .dates))))
 
 -- the pension age of a section is one that months early takes
 pub section-age : (section : ℕ) {age : ℕ} → age ≡ sectionPensionAge section → (section ≡ 0 → ⊥) → section ≤ 2 → (55 ≤ age) × (age ≤ 75)

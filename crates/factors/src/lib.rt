@@ -13,7 +13,7 @@ ghost use Prim.Native.Nat.{_^_, _≤_};
 ghost use Rattle.benefits.specs.Limits.{highestEarlyFactor};
 ghost use Rattle.calendar.specs.Ranges.{Accepted};
 ghost use Rattle.frames.specs.Limits.{memberRefusal};
-ghost use Rattle.rules.specs.Working.{sectionPensionAge, early, early1995, reducedIf};
+ghost use Rattle.rules.specs.Working.{early, early1995, reducedIf};
 ghost use Rattle.rules.specs.Amounts.{AmountsBounds};
 ghost use Rattle.factors.specs.Factors.{noneFound, noDated, noFactors, afterPrevious, factorFields, datedFor, factorsFor, foundBy, datedBy, factorTaken, wantedFound, factorsHeld, reducedBy, DatedBounds};
 
@@ -75,17 +75,6 @@ fn no_dated() -> Dated
     }
 }
 
-// The pension age of a section, 0 for none.
-fn section_pension_age(section: u64) -> u64
-    ensures { λ r. ⌜ r ≡ sectionPensionAge section ⌝ }
-{
-    match section {
-        1 => 60,
-        2 => 65,
-        _ => 0,
-    }
-}
-
 // Months early of a member at a pension age, 0 where retirement is not early.
 fn wanted_months(m: Member, pension_age: u64) -> Months
     requires { ⌜ (Accepted (m .birth) (m .retirement)) × (55 ≤ «pension_age») × («pension_age» ≤ 75) ⌝ }
@@ -106,8 +95,7 @@ fn section_months(m: Member) -> Months
     if m.section == 0 {
         return Months(0);
     }
-    let pension_age = section_pension_age(m.section);
-    wanted_months(m, pension_age)
+    wanted_months(m, m.section_pension_age)
 }
 
 // The months early of a member in each scheme, and no factors yet.

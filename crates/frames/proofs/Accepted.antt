@@ -5,7 +5,7 @@ use mathlib.Core.Path.{_≡_, refl}
 use native.Mathlib.Omega.{arith}
 use lib.Dec.{leb, eqb}
 use borrow.Author.Tests.{eqb-true, eqb-false, not-true}
-use Rattle.measures.specs.Refusals.{within}
+use Rattle.measures.specs.Refusals.{within, unless}
 use Rattle.measures.proofs.Tests.{passed, parts, neither}
 use Rattle.benefits.specs.Limits.{highestRevaluation, highestEarlyFactor, highestPot}
 use Rattle.calendar.specs.Dates.{datesRefusal}
@@ -15,22 +15,31 @@ use Rattle.frames.specs.declared.Member.{Member}
 use Rattle.frames.specs.declared.Year.{Year}
 use Rattle.frames.specs.declared.Factor.{Factor}
 use Rattle.frames.specs.declared.Debit.{Debit}
-use Rattle.frames.specs.Limits.{memberRefusal, yearStands, schemeStands, hasLumpSum, factorRefusal, debitRefusal}
+use Rattle.frames.specs.Limits.{sectionPensionAge, memberRefusal, yearStands, schemeStands, hasLumpSum, factorRefusal, debitRefusal}
 
--- a member without refusal 5
+-- a member without refusals 5 and 28
 pub record MemberGood (m : Member) : Type 0 where
   pub dates : Accepted (m .birth) (m .retirement)
   pub section : m .section ≤ 2
   pub age-from : 55 ≤ m .«pension_age»
   pub age-to : m .«pension_age» ≤ 75
+  pub age-of-section : m .«section_pension_age» ≡ sectionPensionAge (m .section)
 
 pub member-good : (m : Member) → memberRefusal m ≡ 0 → MemberGood m
 unfolding memberRefusal
 member-good m e =
-    let none = neither (datesRefusal (m .birth) (m .retirement) (m .«pension_age»)) _ e in
+    let refusals = neither _ (unless (eqb (m .«section_pension_age») (sectionPensionAge (m .section))) 28) e in
+    let none = neither (datesRefusal (m .birth) (m .retirement) (m .«pension_age»)) _ (refusals .0) in
     let section : leb (m .section) 2 ≡ true = passed _ 5 (omega arith) (none .1) in
+    let of-section : eqb (m .«section_pension_age») (sectionPensionAge (m .section)) ≡ true = passed _ 28 (omega arith) (refusals .1) in
     let age = accepted-age _ _ _ (none .0) in
-    record { dates = accepted _ _ _ (none .0); section = search parts; age-from = age .0; age-to = age .1 }
+    record {
+      dates = accepted _ _ _ (none .0);
+      section = search parts;
+      age-from = age .0;
+      age-to = age .1;
+      age-of-section = eqb-true _ _ of-section;
+    }
 
 -- a year whose own fields stand
 pub record YearGood (y : Year) : Type 0 where

@@ -1,4 +1,4 @@
--- Document 01, "Frames", and the frame of request 2.4: the frame that bytes are. "fields are unsigned, big-endian, widths in bytes"
+-- Document 01, "Frames", with the frame of request 2.4 and the last byte of 2.5: the frame that bytes are. "fields are unsigned, big-endian, widths in bytes"
 use Prim.Native.Nat.{ℕ, _+_, _*_}
 use mathlib.Core.Bool.{cond}
 use mathlib.Core.List.{List}
@@ -26,10 +26,17 @@ kindOf bytes = oneAt bytes 0
 unfoldable pub dateAt : List ℕ → ℕ → Date
 dateAt bytes at = record { year = twoAt bytes at; month = oneAt bytes (at + 2); day = oneAt bytes (at + 3) }
 
--- "01 member: birth and retirement (year 2, month 1, day 1 each), section 1 (0 none, 1 the 1995), pension age 1."; "Section 2 joins the member frame."
+-- "01 member: birth and retirement (year 2, month 1, day 1 each), section 1 (0 none, 1 the 1995), pension age 1."; "Section 2 joins the member frame.";
+-- "The member frame gains a last byte, the section's pension age"
 unfoldable pub memberIn : List ℕ → Member
 memberIn bytes =
-    record { birth = dateAt bytes 1; retirement = dateAt bytes 5; section = oneAt bytes 9; «pension_age» = oneAt bytes 10 }
+    record {
+      birth = dateAt bytes 1;
+      retirement = dateAt bytes 5;
+      section = oneAt bytes 9;
+      «pension_age» = oneAt bytes 10;
+      «section_pension_age» = oneAt bytes 11;
+    }
 
 -- "02 year: April year (that of its 1 April) 2, revaluation 2."
 unfoldable pub yearIn : List ℕ → Year
@@ -85,7 +92,7 @@ tenPaysIn bytes =
 -- the bytes of a frame of each kind: the kind's own and its fields'; 0 for an unknown kind
 unfoldable pub frameLength : ℕ → ℕ
 frameLength kind =
-    cond (eqb kind 1) (1 + 4 + 4 + 1 + 1)
+    cond (eqb kind 1) (1 + 4 + 4 + 1 + 1 + 1)
     (cond (eqb kind 2) (1 + 2 + 2)
     (cond (eqb kind 3) (1 + bytesOfPost)
     (cond (eqb kind 4) (1 + 4 * 4 + 3 * 2 + 1 + 2 + 2)

@@ -1,6 +1,6 @@
 -- "Running case, fields": the refusals of a frame by its own fields and the member's section.
 use Prim.Native.Nat.{ℕ}
-use mathlib.Core.Bool.{Bool, _&&_, _||_, not}
+use mathlib.Core.Bool.{Bool, _&&_, _||_, not, cond}
 use lib.Dec.{leb, eqb}
 use Rattle.measures.specs.Refusals.{within, unless, firstRefusal}
 use Rattle.benefits.specs.Limits.{highestRevaluation, highestEarlyFactor, highestPot}
@@ -10,10 +10,16 @@ use Rattle.frames.specs.declared.Year.{Year}
 use Rattle.frames.specs.declared.Factor.{Factor}
 use Rattle.frames.specs.declared.Debit.{Debit}
 
+-- "60 for the 1995 Section (public scheme rule)"; of the 2008 Section "Pension age is 65"; "0 for section 0, 60 for 1, 65 for 2"
+abbrev pub sectionPensionAge : ℕ → ℕ
+sectionPensionAge section = cond (eqb section 1) 60 (cond (eqb section 2) 65 0)
+
 -- "5, year outside 1900 to 2100, month outside 1 to 12, a day that doesn't fit its Gregorian month, retirement before birth, section above 1,
--- pension age outside 55 to 75."; "refusal 5 now begins at section 3"
+-- pension age outside 55 to 75."; "refusal 5 now begins at section 3"; "with 28, after 5, when the byte isn't that of the section"
 unfoldable pub memberRefusal : Member → ℕ
-memberRefusal m = firstRefusal (datesRefusal (m .birth) (m .retirement) (m .«pension_age»)) (unless (leb (m .section) 2) 5)
+memberRefusal m =
+    firstRefusal (firstRefusal (datesRefusal (m .birth) (m .retirement) (m .«pension_age»)) (unless (leb (m .section) 2) 5))
+    (unless (eqb (m .«section_pension_age») (sectionPensionAge (m .section))) 28)
 
 -- "6, an April year outside 2015 to 2100, [..] revaluation above 2,000," turned round
 unfoldable pub yearStands : Year → Bool

@@ -48,6 +48,7 @@ fn member_in(bytes: &[u8]) -> Member
         retirement,
         section: one_at(bytes, 9),
         pension_age: one_at(bytes, 10),
+        section_pension_age: one_at(bytes, 11),
     }
 }
 
@@ -137,7 +138,7 @@ fn frame_length(kind: u64) -> usize
     ensures { λ r. ⌜ r ≡ frameLength kind ⌝ }
 {
     match kind {
-        1 => 11,
+        1 => 12,
         2 => 5,
         3 => POST_FRAME,
         4 => 28,

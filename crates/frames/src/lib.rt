@@ -19,12 +19,13 @@ pub use limits::year_stands;
 // The bytes of the longest frame, the 08.
 pub const LONGEST_FRAME: usize = 43;
 
-// A member: birth and retirement, the section (0 none, 1 the 1995, 2 the 2008), the pension age in years.
+// A member: birth and retirement, the section (0 none, 1 the 1995, 2 the 2008), the member's own pension age in years, and that of the section.
 pub struct Member {
     pub birth: Date,
     pub retirement: Date,
     pub section: u64,
     pub pension_age: u64,
+    pub section_pension_age: u64,
 }
 
 // A year: the calendar year of its 1 April, and its revaluation in ten-thousandths.

@@ -8,9 +8,20 @@ use benefits::HIGHEST_POT;
 use benefits::HIGHEST_REVALUATION;
 use calendar::dates_refusal;
 ghost use mathlib.Core.Path.{_≡_};
-ghost use Rattle.frames.specs.Limits.{memberRefusal, yearStands, schemeStands, hasLumpSum, factorRefusal, debitRefusal};
+ghost use Rattle.frames.specs.Limits.{sectionPensionAge, memberRefusal, yearStands, schemeStands, hasLumpSum, factorRefusal, debitRefusal};
 
-// 5 where a date, the pension age or the section of a member is out of its range; else 0.
+// The pension age of a section, 0 for none.
+fn section_pension_age(section: u64) -> u64
+    ensures { λ r. ⌜ r ≡ sectionPensionAge section ⌝ }
+{
+    match section {
+        1 => 60,
+        2 => 65,
+        _ => 0,
+    }
+}
+
+// 5 where a date, the pension age or the section of a member is out of its range; then 28 where the section's pension age is another; else 0.
 pub fn member_refusal(m: Member) -> u64
     ensures { λ r. ⌜ r ≡ memberRefusal m ⌝ }
 {
@@ -20,6 +31,9 @@ pub fn member_refusal(m: Member) -> u64
     }
     if 2 < m.section {
         return 5;
+    }
+    if m.section_pension_age != section_pension_age(m.section) {
+        return 28;
     }
     0
 }

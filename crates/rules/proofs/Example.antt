@@ -1,5 +1,5 @@
--- The printed case of document 01, by computation: its frames come to 66,667 pence of 2015 pension, so that nothing above is empty. Beside it a
--- case of the 2008 Section.
+-- The printed case of document 01 with the byte that request 2.5 adds, by computation: its frames come to 66,667 pence of 2015 pension, so that
+-- nothing above is empty. Beside it a case of the 2008 Section.
 use Prim.Native.Nat.{ℕ}
 use mathlib.Core.Path.{_≡_, refl}
 use mathlib.Core.List.{List, [], _∷_}
@@ -20,7 +20,7 @@ use Rattle.rules.specs.Working.{early, pensionFrom, pensionOf, ownPay, p
 
 abbrev pub printed : List (List ℕ)
 printed =
-    (1 ∷ 7 ∷ 178 ∷ 4 ∷ 1 ∷ 7 ∷ 245 ∷ 4 ∷ 1 ∷ 0 ∷ 67 ∷ [])
+    (1 ∷ 7 ∷ 178 ∷ 4 ∷ 1 ∷ 7 ∷ 245 ∷ 4 ∷ 1 ∷ 0 ∷ 67 ∷ 0 ∷ [])
     ∷ (2 ∷ 7 ∷ 223 ∷ 0 ∷ 0 ∷ [])
     ∷ (3 ∷ 5 ∷ 220 ∷ 8 ∷ 202 ∷ 0 ∷ 39 ∷ 172 ∷ 64 ∷ [])
     ∷ (3 ∷ 3 ∷ 132 ∷ 8 ∷ 202 ∷ 0 ∷ 18 ∷ 79 ∷ 128 ∷ [])
@@ -34,7 +34,7 @@ printed-case = refl
 -- average 4,100,000; × 7,300/21,900 is 1,366,667; × 0.800 is 1,093,334; less a debit of 49,505.
 abbrev pub tenPaysCase : List (List ℕ)
 tenPaysCase =
-    (1 ∷ 7 ∷ 178 ∷ 4 ∷ 1 ∷ 7 ∷ 241 ∷ 4 ∷ 1 ∷ 2 ∷ 67 ∷ [])
+    (1 ∷ 7 ∷ 178 ∷ 4 ∷ 1 ∷ 7 ∷ 241 ∷ 4 ∷ 1 ∷ 2 ∷ 67 ∷ 65 ∷ [])
     ∷ (8 ∷ 0 ∷ 45 ∷ 198 ∷ 192 ∷ 0 ∷ 47 ∷ 77 ∷ 96 ∷ 0 ∷ 48 ∷ 212 ∷ 0 ∷ 0 ∷ 61 ∷ 9 ∷ 0 ∷ 0 ∷ 62 ∷ 143 ∷ 160 ∷ 0
     ∷ 64 ∷ 22 ∷ 64 ∷ 0 ∷ 59 ∷ 130 ∷ 96 ∷ 0 ∷ 57 ∷ 251 ∷ 192 ∷ 0 ∷ 56 ∷ 117 ∷ 32 ∷ 0 ∷ 54 ∷ 238 ∷ 128 ∷ 28 ∷ 132 ∷ [])
     ∷ (5 ∷ 0 ∷ 0 ∷ 48 ∷ 3 ∷ 132 ∷ 0 ∷ 0 ∷ [])

@@ -28,17 +28,13 @@ ifPositive (negsuc months) = 0
 unfoldable pub early : Member → ℕ → ℕ
 early m pensionAge = ifPositive (monthsEarly (m .birth) (m .retirement) pensionAge)
 
--- "60 for the 1995 Section (public scheme rule)"; of the 2008 Section "Pension age is 65"; 0 stands for none, without a section
-abbrev pub sectionPensionAge : ℕ → ℕ
-sectionPensionAge section = cond (eqb section 1) 60 (cond (eqb section 2) 65 0)
-
 -- "Pension age is the member's for the 2015 Scheme"
 abbrev pub early2015 : Member → ℕ
 early2015 m = early m (m .«pension_age»)
 
--- at that of the member's section
+-- "The section's months early are then taken from the byte."
 abbrev pub early1995 : Member → ℕ
-early1995 m = early m (sectionPensionAge (m .section))
+early1995 m = early m (m .«section_pension_age»)
 
 -- ---- Years, with the aggregate of each
 

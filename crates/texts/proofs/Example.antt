@@ -18,10 +18,10 @@ use Rattle.fields.specs.Digits.{digitOf}
 use Rattle.texts.specs.Text.{characterThen, linesOf, byteThen, bytesOf, lineBytes, decodedLine, framesOf, readFrom, workText}
 use Rattle.texts.specs.Printed.{characterOf, digitsOf, printedOf}
 
--- "Input:", its four lines of characters
+-- "Input:", its four lines of characters; it "gains two zero digits on its first line"
 abbrev pub printedText : List ℕ
 printedText =
-    48 ∷ 49 ∷ 48 ∷ 55 ∷ 66 ∷ 50 ∷ 48 ∷ 52 ∷ 48 ∷ 49 ∷ 48 ∷ 55 ∷ 70 ∷ 53 ∷ 48 ∷ 52 ∷ 48 ∷ 49 ∷ 48 ∷ 48 ∷ 52 ∷ 51 ∷ 10
+    48 ∷ 49 ∷ 48 ∷ 55 ∷ 66 ∷ 50 ∷ 48 ∷ 52 ∷ 48 ∷ 49 ∷ 48 ∷ 55 ∷ 70 ∷ 53 ∷ 48 ∷ 52 ∷ 48 ∷ 49 ∷ 48 ∷ 48 ∷ 52 ∷ 51 ∷ 48 ∷ 48 ∷ 10
     ∷ 48 ∷ 50 ∷ 48 ∷ 55 ∷ 68 ∷ 70 ∷ 48 ∷ 48 ∷ 48 ∷ 48 ∷ 10
     ∷ 48 ∷ 51 ∷ 48 ∷ 53 ∷ 68 ∷ 67 ∷ 48 ∷ 56 ∷ 67 ∷ 65 ∷ 48 ∷ 48 ∷ 50 ∷ 55 ∷ 65 ∷ 67 ∷ 52 ∷ 48 ∷ 10
     ∷ 48 ∷ 51 ∷ 48 ∷ 51 ∷ 56 ∷ 52 ∷ 48 ∷ 56 ∷ 67 ∷ 65 ∷ 48 ∷ 48 ∷ 49 ∷ 50 ∷ 52 ∷ 70 ∷ 56 ∷ 48 ∷ 10

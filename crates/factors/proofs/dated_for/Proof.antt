@@ -1,4 +1,4 @@
--- `factors::dated_for` meets its contract: a member without refusal 5 has dates and an age that months early takes.
+-- `factors::dated_for` meets its contract: a member who is not refused has dates and an age that months early takes.
 use Rattle.frames.proofs.Accepted.{member-good}
 use Rattle.factors.specs.Factors.{datedFor}
 use borrow.Author.Needs.{needs}

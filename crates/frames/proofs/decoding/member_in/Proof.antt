@@ -20,11 +20,23 @@ one-at-requires-2 : tie.Need-one-at-requires-2
 unfolding frameLength
 one-at-requires-2 c κs = search needs
 
+one-at-requires-3 : tie.Need-one-at-requires-3
+unfolding frameLength
+one-at-requires-3 c κs = search needs
+
 returns : tie.Need-returns
 unfolding memberIn
-returns c = cc (c .one-at2 .ensures .0, c .before .one-at .ensures .0, c .before .before .date-at2 .ensures, c .before .before .before .date-at .ensures)
+returns c =
+    let w = c .before .before in
+    cc (c .one-at3 .ensures .0, c .before .one-at2 .ensures .0, w .one-at .ensures .0, w .before .date-at2 .ensures, w .before .before .date-at .ensures)
 
 pub member-in-spec : {M : Type 1} → statement M
 member-in-spec =
     tie.close
-    (tie.spec date-at-requires date-at-requires-2 one-at-requires one-at-requires-2 returns)
+    (tie.spec
+    date-at-requires
+    date-at-requires-2
+    one-at-requires
+    one-at-requires-2
+    one-at-requires-3
+    returns)

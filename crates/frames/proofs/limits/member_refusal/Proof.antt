@@ -1,4 +1,4 @@
--- `frames::limits::member_refusal` meets its contract: the refusal of the dates and the pension age, then the section.
+-- `frames::limits::member_refusal` meets its contract: the refusal of the dates and the pension age, then the section, then the section's pension age.
 use Rattle.measures.proofs.Tests.{tests}
 use Rattle.frames.specs.Limits.{memberRefusal}
 use borrow.Author.Needs.{needs}
@@ -16,9 +16,28 @@ returns-2 : tie.Need-returns-2
 unfolding memberRefusal
 returns-2 c = search (tests, ← (c .before .before .before .dates-refusal .ensures))
 
+section-pension-age-requires : tie.Need-section-pension-age-requires
+section-pension-age-requires c κs = search needs
+
 returns-3 : tie.Need-returns-3
 unfolding memberRefusal
-returns-3 c = search (tests, ← (c .before .before .before .dates-refusal .ensures))
+returns-3 c =
+    let b = c .before .before in
+    search (tests, ← (b .section-pension-age .ensures), ← (b .before .before .before .before .dates-refusal .ensures))
+
+returns-4 : tie.Need-returns-4
+unfolding memberRefusal
+returns-4 c =
+    let b = c .before .before in
+    search (tests, ← (b .section-pension-age .ensures), ← (b .before .before .before .before .dates-refusal .ensures))
 
 pub member-refusal-spec : {M : Type 1} → statement M
-member-refusal-spec = tie.close (tie.spec dates-refusal-requires returns returns-2 returns-3)
+member-refusal-spec =
+    tie.close
+    (tie.spec
+    dates-refusal-requires
+    returns
+    returns-2
+    section-pension-age-requires
+    returns-3
+    returns-4)

@@ -1,7 +1,7 @@
--- `factors::section_pension_age` meets its contract: by the section.
+-- `frames::limits::section_pension_age` meets its contract: by the section.
 use Rattle.measures.proofs.Tests.{tests}
-use Rattle.factors.proofs.section_pension_age.Statement.{statement}
-use Rattle.factors.proofs.section_pension_age.Tie as tie
+use Rattle.frames.proofs.limits.section_pension_age.Statement.{statement}
+use Rattle.frames.proofs.limits.section_pension_age.Tie as tie
 
 returns : tie.Need-returns
 returns c = rw (c .match .keys1)
