@@ -2,14 +2,8 @@
 
 use crate::unless;
 
-/// The pension age of the 1995 Section, 1, and of the 2008 Section, 2.
-pub fn section_pension_age(section: u64) -> Option<u64> {
-    match section {
-        1 => Some(60),
-        2 => Some(65),
-        _ => None,
-    }
-}
+/// The pension age that stands on record for each section: none, the 1995, the 2008.
+pub const SECTION_PENSION_AGES: [u64; 3] = [0, 60, 65];
 
 /// A date as given; it need not be one of the calendar.
 #[derive(Clone, Copy, Debug, PartialEq, Eq)]

@@ -1,7 +1,7 @@
 //! A case: the frames kept, their order and fields, and its closing.
 
 use crate::benefits::{after_year, pension_debit, reduced, FinalPay};
-use crate::calendar::{months_before, section_pension_age, try_dates};
+use crate::calendar::{months_before, try_dates, SECTION_PENSION_AGES};
 use crate::frames::{frame, line_bytes, lines, Debit, Factor, Frame, Member, LARGEST_TEXT};
 use crate::posts::{aggregate, try_post, Post};
 use crate::ten_pays::TenPays;
@@ -46,6 +46,14 @@ pub struct Outcome {
     pub net_1995: u64,
     pub net_lump_sum: u64,
     pub charge: u64,
+}
+
+/// Refusal 5 of a member, then 28.
+fn try_member(member: &Member) -> Result<(), u64> {
+    try_dates(member.birth, member.retirement, member.pension_age)?;
+    let recorded = SECTION_PENSION_AGES.get(member.section as usize);
+    let section_pension_age = recorded.ok_or(5u64)?;
+    unless(member.section_pension_age == *section_pension_age, 28)
 }
 
 impl Case {
@@ -137,8 +145,7 @@ impl Case {
         self.try_order(&frame)?;
         match frame {
             Frame::Member(member) => {
-                try_dates(member.birth, member.retirement, member.pension_age)?;
-                unless(member.section <= 2, 5)?;
+                try_member(&member)?;
                 self.member = Some(member);
             }
             Frame::Year { april, revaluation } => {
@@ -179,7 +186,8 @@ impl Case {
         let member = self.member?;
         let pension_age = match scheme {
             0 => member.pension_age,
-            _ => section_pension_age(member.section)?,
+            _ if member.section == 0 => return None,
+            _ => member.section_pension_age,
         };
         Some(months_before(member.birth, member.retirement, pension_age))
     }

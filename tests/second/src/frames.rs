@@ -14,6 +14,8 @@ pub struct Member {
     pub retirement: Date,
     pub section: u64,
     pub pension_age: u64,
+    /// The section's, on record.
+    pub section_pension_age: u64,
 }
 
 /// Months early and the factors for them, in thousandths.
@@ -98,7 +100,7 @@ pub fn line_bytes(line: &Line) -> Result<Vec<u8>, u64> {
 /// The widths of the fields of a kind.
 fn widths(kind: u8) -> Option<&'static [usize]> {
     match kind {
-        0x01 => Some(&[2, 1, 1, 2, 1, 1, 1, 1]),
+        0x01 => Some(&[2, 1, 1, 2, 1, 1, 1, 1, 1]),
         0x02 => Some(&[2, 2]),
         0x03 => Some(&[2, 2, 4]),
         0x04 => Some(&[4, 4, 4, 4, 2, 2, 2, 1, 2, 2]),
@@ -143,6 +145,7 @@ pub fn frame(bytes: &[u8]) -> Result<Frame, u64> {
             retirement: date(&of[3..6]),
             section: of[6],
             pension_age: of[7],
+            section_pension_age: of[8],
         }),
         0x02 => Frame::Year {
             april: of[0],

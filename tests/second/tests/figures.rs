@@ -43,8 +43,8 @@ fn refusal(lines: &[&str]) -> (u64, u64) {
     (given.refusal, given.line)
 }
 
-const LATE: &str = "0107B2040107F504010043";
-const LATE_WITH_SECTION: &str = "0107B2040107F504010143";
+const LATE: &str = "0107B2040107F50401004300";
+const LATE_WITH_SECTION: &str = "0107B2040107F5040101433C";
 const FINAL_PAY: &str = "04002DC6C0002F4D600030D400003D0900004100410041071C8407E4";
 
 #[test]
@@ -224,7 +224,7 @@ fn printed_refusals() {
 
 #[test]
 fn closing() {
-    let early = "0107B2040107E904010143";
+    let early = "0107B2040107E9040101433C";
     // Born 1 April 1970, out 1 April 2025: 144 months before 67 and 60 before 60.
     assert_eq!(refusal(&[early]), (12, 0));
     assert_eq!(refusal(&[early, FINAL_PAY]), (13, 0));

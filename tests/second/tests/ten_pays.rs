@@ -1,12 +1,14 @@
 //! Figures for each sentence of request 2.4, the 2008 Section.
 
-use second::{case, printed};
+mod lines;
+
+use lines::line;
 
 /// Out at 67, section 2.
-const MEMBER: &str = "0107B2040107F504010243";
+const MEMBER: &str = "0107B2040107F50401024341";
 
 /// Out at 63: 48 months before 67 and 24 before 65.
-const EARLY: &str = "0107B2040107F104010243";
+const EARLY: &str = "0107B2040107F10401024341";
 
 /// £30,000, £31,000, £32,000, £40,000, £41,000, £42,000, £39,000, £38,000, £37,000, £36,000; 7,300
 /// days.
@@ -14,14 +16,6 @@ const TEN_PAYS: &str =
     "08002DC6C0002F4D600030D400003D0900003E8FA000401640003B82600039FBC0003875200036EE801C84";
 
 const FINAL_PAY: &str = "04002DC6C0002F4D600030D400003D0900004100410041071C8407E4";
-
-/// The printed line of lines.
-fn line(lines: &[&str]) -> String {
-    let text: String = lines.iter().map(|line| format!("{line}\n")).collect();
-    let mut line = String::from_utf8(printed(&case(text.as_bytes()))).expect("digits");
-    assert_eq!(line.pop(), Some('\n'));
-    line
-}
 
 /// The printed line of a pension in the 1995 place alone.
 fn pension(pence: u64) -> String {
@@ -36,12 +30,12 @@ fn frame(pays: [u64; 10], days: u64) -> String {
 
 #[test]
 fn sections() {
-    let of = |section: &str| line(&[&format!("0107B2040107F50401{section}43")]);
-    assert_eq!(of("00"), pension(0));
-    assert_eq!(of("01"), "EE0C0000");
-    assert_eq!(of("02"), "EE0C0000");
-    assert_eq!(of("03"), "EE050001");
-    assert_eq!(of("FF"), "EE050001");
+    let of = |member: &str| line(&[member]);
+    assert_eq!(of("0107B2040107F50401004300"), pension(0));
+    assert_eq!(of("0107B2040107F5040101433C"), "EE0C0000");
+    assert_eq!(of("0107B2040107F50401024341"), "EE0C0000");
+    assert_eq!(of("0107B2040107F50401034300"), "EE050001");
+    assert_eq!(of("0107B2040107F50401FF4300"), "EE050001");
 }
 
 #[test]
@@ -67,7 +61,7 @@ fn pension_age_65() {
     assert_eq!(line(&[EARLY, TEN_PAYS, of_2015]), "EE0D0000");
     assert_eq!(line(&[EARLY, TEN_PAYS, of_2008]), "EE0D0000");
     // Out at 60 with a pension age of 60: 60 months early in the section alone.
-    let at_60 = "0107B2040107EE0401023C";
+    let at_60 = "0107B2040107EE0401023C41";
     assert_eq!(line(&[at_60, TEN_PAYS]), "EE0D0000");
     let factor = "0501003C02EE0000";
     assert_eq!(line(&[at_60, TEN_PAYS, factor]), pension(1_025_000));
@@ -99,7 +93,7 @@ fn in_the_place_of_04() {
 #[test]
 fn pays_of_another_section() {
     let past = frame([1_000_000_001; 10], 16_426);
-    for member in ["0107B2040107F504010043", "0107B2040107F504010143"] {
+    for member in ["0107B2040107F50401004300", "0107B2040107F5040101433C"] {
         assert_eq!(line(&[member, TEN_PAYS]), "EE040002");
         assert_eq!(line(&[member, &past]), "EE040002");
     }
@@ -113,7 +107,7 @@ fn scheme_1_means_the_section() {
     let debit = "0601000F424007E4";
     assert_eq!(line(&[MEMBER, TEN_PAYS, factor]), pension(1_366_667));
     assert_eq!(line(&[MEMBER, TEN_PAYS, with_lump_factor]), "EE0A0003");
-    let none = "0107B2040107F504010043";
+    let none = "0107B2040107F50401004300";
     assert_eq!(line(&[none, factor]), "EE0A0002");
     assert_eq!(line(&[none, debit]), "EE0B0002");
 }

@@ -1,7 +1,7 @@
 //! Cases that are accepted, with rare but telling shapes made common.
 
 use crate::benefits::{pension_debit, FinalPay};
-use crate::calendar::{month_length, months_before, section_pension_age, Date};
+use crate::calendar::{month_length, months_before, Date, SECTION_PENSION_AGES};
 use crate::cases::{Benefits, Case, Year, MOST_YEARS};
 use crate::frames::{Debit, Factor, Member, LARGEST_TEXT};
 use crate::posts::{Post, MOST_POSTS};
@@ -243,7 +243,12 @@ fn age_months(random: &mut Random, pension_age: u64, section_age: u64) -> u64 {
 
 /// A member whose factors, if any are needed, can be in a case.
 pub fn member(random: &mut Random, section: u64) -> Member {
-    let section_age = section_pension_age(section).unwrap_or(60);
+    let section_pension_age = SECTION_PENSION_AGES[section as usize];
+    // Without a section dates are drawn as in the 1995.
+    let section_age = match section {
+        0 => SECTION_PENSION_AGES[1],
+        _ => section_pension_age,
+    };
     loop {
         let pension_age = random.near_ends(55, 75);
         let months = age_months(random, pension_age, section_age);
@@ -258,6 +263,7 @@ pub fn member(random: &mut Random, section: u64) -> Member {
             retirement,
             section,
             pension_age,
+            section_pension_age,
         };
         let exists = retirement.exists();
         let in_order = (birth.month, birth.day) <= (retirement.month, retirement.day)
@@ -497,7 +503,7 @@ const FACTOR_LINE: usize = 17;
 /// The bytes of all lines but factors of a case of the most years, with so many posts.
 fn other_lines(case: &Case, posts: usize) -> usize {
     let pays_line = if case.ten_pays.is_some() { 87 } else { 57 };
-    23 + 11 * MOST_YEARS + pays_line + POST_LINE * posts
+    25 + 11 * MOST_YEARS + pays_line + POST_LINE * posts
 }
 
 /// Adds posts until the rest of the largest text can be filled with factors.

@@ -1,4 +1,4 @@
-//! Texts that are refused, by every cause that document 01 and request 2.4 name.
+//! Texts that are refused, by every cause that document 01 and requests 2.4 and 2.5 name.
 
 mod closing;
 mod fields;
@@ -39,6 +39,8 @@ enum Way {
     After { earlier: u8, kind: u8 },
     /// The pays of the kind stand with a section that has no such pays, within their limits or past.
     Section { kind: u8, section: u64, past: bool },
+    /// A member of the section has a number from low to high for its pension age.
+    Age { section: u64, low: u64, high: u64 },
     /// By a function of its own.
     Own(fn(&mut Random) -> Damaged),
 }
@@ -73,6 +75,10 @@ impl Cause {
                 section,
                 past,
             } => lines::pays_of_other_section(random, kind, section, past),
+            Way::Age { section, low, high } => {
+                let number = random.near_ends(low, high);
+                fields::other_age(random, section, number)
+            }
             Way::Own(make) => make(random),
         }
     }
@@ -118,6 +124,14 @@ const fn section(words: &'static str, kind: u8, section: u64, past: bool) -> Cau
     }
 }
 
+const fn age(words: &'static str, section: u64, (low, high): (u64, u64)) -> Cause {
+    Cause {
+        refusal: 28,
+        words,
+        way: Way::Age { section, low, high },
+    }
+}
+
 const fn after(words: &'static str, earlier: u8, kind: u8) -> Cause {
     Cause {
         refusal: 4,
@@ -142,7 +156,7 @@ const FOUR: u64 = 0xFFFF_FFFF;
 /// The first number past a pay or pot.
 const PAST_PAY: u64 = LARGEST_PAY + 1;
 
-/// Every cause that document 01 names, in its order, those of request 2.4 among them.
+/// Every cause that document 01 names, in its order, those of requests 2.4 and 2.5 among them.
 pub const CAUSES: &[Cause] = &[
     own(1, "a text one byte over", lines::one_byte_over),
     own(1, "a text far over", lines::far_over),
@@ -167,6 +181,13 @@ pub const CAUSES: &[Cause] = &[
     own(3, "the kind alone", lines::kind_alone),
     own(3, "a line far too long", lines::far_too_long),
     own(3, "a wrong length out of order", lines::length_and_order),
+    length("01 of the earlier length", 1, 11),
+    length("01 of 13 bytes", 1, 13),
+    own(
+        3,
+        "01 of the earlier length, of section 3",
+        fields::earlier_length_of_section_3,
+    ),
     length("08 of 42 bytes", 8, 42),
     length("08 of 44 bytes", 8, 44),
     length("08 as long as an 04", 8, 28),
@@ -241,6 +262,27 @@ pub const CAUSES: &[Cause] = &[
     field(5, "section above 2", (1, 9, 1), (3, BYTE)),
     field(5, "pension age below 55", (1, 10, 1), (0, 54)),
     field(5, "pension age above 75", (1, 10, 1), (76, BYTE)),
+    own(5, "5 before 28: birth", fields::birth_and_age),
+    own(5, "5 before 28: retirement", fields::retirement_and_age),
+    own(5, "5 before 28: order of dates", fields::dates_and_age),
+    own(5, "5 before 28: pension age", fields::own_age_and_age),
+    own(5, "5 before 28: section", fields::section_and_age),
+    age("section 0 with 60", 0, (60, 60)),
+    age("section 0 with 65", 0, (65, 65)),
+    age("section 0 with any other age", 0, (1, BYTE)),
+    age("section 1 with 0", 1, (0, 0)),
+    age("section 1 with 65", 1, (65, 65)),
+    age("section 1 with a lower age", 1, (0, 59)),
+    age("section 1 with a higher age", 1, (61, BYTE)),
+    age("section 2 with 0", 2, (0, 0)),
+    age("section 2 with 60", 2, (60, 60)),
+    age("section 2 with a lower age", 2, (0, 64)),
+    age("section 2 with a higher age", 2, (66, BYTE)),
+    age("255 without section", 0, (BYTE, BYTE)),
+    age("255 with section 1", 1, (BYTE, BYTE)),
+    age("255 with section 2", 2, (BYTE, BYTE)),
+    own(28, "the member's own age", fields::own_age_twice),
+    own(4, "4 before 28", fields::second_member_of_other_age),
     field(6, "April year below 2015", (2, 1, 2), (0, 2014)),
     field(6, "April year above 2100", (2, 1, 2), (2101, PAIR)),
     own(6, "the April year before again", fields::same_year),

@@ -28,6 +28,7 @@ pub fn member_frame(member: &Member) -> Vec<u8> {
             (1, retirement.day),
             (1, member.section),
             (1, member.pension_age),
+            (1, member.section_pension_age),
         ],
     )
 }

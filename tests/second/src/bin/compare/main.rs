@@ -222,7 +222,7 @@ fn compare_all_posts(tally: &mut Tally, random: &mut Random) {
 
 /// The posts of accepted bytes, read through a text of one year.
 fn posts_of(bytes: &[u8]) -> Vec<second::posts::Post> {
-    let mut frames = vec![b"\x01\x07\xB2\x04\x01\x07\xF5\x04\x01\x00\x43".to_vec()];
+    let mut frames = vec![b"\x01\x07\xB2\x04\x01\x07\xF5\x04\x01\x00\x43\x00".to_vec()];
     frames.push(vec![2, 0x07, 0xDF, 0, 0]);
     frames.extend(bytes.chunks(8).map(|record| [&[3], record].concat()));
     let text = writing::text_of(&writing::lines_of(&frames));
@@ -330,7 +330,7 @@ fn expect_refusals(tally: &mut Tally) {
         "case damaged at random",
         "case of mixed frames",
     ] {
-        for refusal in (0..=14).chain([27]) {
+        for refusal in (0..=14).chain([27, 28]) {
             tally.expect(&format!("{words}: refusal {refusal}"), 0);
         }
     }

@@ -1,14 +1,16 @@
-//! Refusals 5 to 11 and 27: the fields of frames.
+//! Refusals 5 to 11, 27 and 28: the fields of frames.
 
-use super::sheets::{places_of, refused_at, refused_frame};
-use super::{Damaged, FOUR, PAIR, PAST_PAY};
-use crate::calendar::{month_length, Date};
+use super::sheets::{case_in, places_of, refused_at, refused_frame};
+use super::{Damaged, BYTE, FOUR, PAIR, PAST_PAY};
+use crate::calendar::{month_length, Date, SECTION_PENSION_AGES};
 use crate::cases::{Case, MOST_YEARS};
-use crate::frames::{Debit, Factor};
+use crate::frames::{Debit, Factor, Member};
 use crate::posts::{Post, MOST_POSTS};
 use crate::random::Random;
 use crate::samples::accepted::{self, whole_case, whole_case_in};
-use crate::samples::writing::{debit_frame, factor_frame, frames_of, post_frame, year_frame};
+use crate::samples::writing::{
+    debit_frame, factor_frame, frames_of, member_frame, post_frame, year_frame,
+};
 use crate::LARGEST_PAY;
 
 /// The text of a case whose member is refused.
@@ -94,6 +96,89 @@ pub(super) fn before_birth_year(random: &mut Random) -> Damaged {
     let month = random.between(1, 12);
     member.retirement = accepted::date_in(random, earlier, month);
     refused_member(random, &case)
+}
+
+pub(super) fn other_age(random: &mut Random, section: u64, number: u64) -> Damaged {
+    let mut case = case_in(random, section);
+    let member = case.member.as_mut().expect("a member");
+    member.section_pension_age = number;
+    refused_member(random, &case)
+}
+
+pub(super) fn own_age_twice(random: &mut Random) -> Damaged {
+    let section = random.below(3);
+    let mut case = case_in(random, section);
+    let member = case.member.as_mut().expect("a member");
+    if member.pension_age == member.section_pension_age {
+        return own_age_twice(random);
+    }
+    member.section_pension_age = member.pension_age;
+    refused_member(random, &case)
+}
+
+/// A text whose member has another number for the age of the section, and is changed besides.
+fn changed_and_age(random: &mut Random, change: fn(&mut Random, &mut Member)) -> Damaged {
+    let section = random.below(3);
+    let mut case = case_in(random, section);
+    let member = case.member.as_mut().expect("a member");
+    member.section_pension_age = random.pick(&[0, 60, 65, BYTE]);
+    if SECTION_PENSION_AGES.get(section as usize) == Some(&member.section_pension_age) {
+        return changed_and_age(random, change);
+    }
+    change(random, member);
+    refused_member(random, &case)
+}
+
+pub(super) fn birth_and_age(random: &mut Random) -> Damaged {
+    changed_and_age(random, |random, member| {
+        member.birth = past_month(random, member.birth.year);
+    })
+}
+
+pub(super) fn retirement_and_age(random: &mut Random) -> Damaged {
+    changed_and_age(random, |random, member| {
+        member.retirement = past_month(random, member.retirement.year);
+    })
+}
+
+pub(super) fn dates_and_age(random: &mut Random) -> Damaged {
+    changed_and_age(random, |_, member| {
+        member.retirement = Date {
+            year: member.birth.year - 1,
+            ..member.birth
+        };
+    })
+}
+
+pub(super) fn own_age_and_age(random: &mut Random) -> Damaged {
+    changed_and_age(random, |random, member| {
+        member.pension_age = random.pick(&[0, 54, 76, BYTE]);
+    })
+}
+
+pub(super) fn section_and_age(random: &mut Random) -> Damaged {
+    changed_and_age(random, |random, member| {
+        member.section = random.near_ends(3, BYTE);
+    })
+}
+
+/// A second 01 is out of order, whatever its fields are.
+pub(super) fn second_member_of_other_age(random: &mut Random) -> Damaged {
+    let case = whole_case(random);
+    let mut member = case.member.expect("a member");
+    member.section_pension_age = random.pick(&[0, BYTE]);
+    let place = random.place(frames_of(&case).len()) + 1;
+    refused_frame(random, &case, place, member_frame(&member))
+}
+
+/// The length is tried before the fields.
+pub(super) fn earlier_length_of_section_3(random: &mut Random) -> Damaged {
+    let mut case = whole_case(random);
+    let member = case.member.as_mut().expect("a member");
+    member.section = 3;
+    let mut frames = frames_of(&case);
+    frames[0].pop();
+    refused_at(random, &frames, 0)
 }
 
 /// A text with an 02 after the years of a case.

@@ -1,10 +1,10 @@
 //! Refusals 1 to 4: the text, its lines, kinds and lengths, and their order.
 
-use super::sheets::{any_line, any_sheet, random_frame, refused_frame, without_pays};
+use super::sheets::{any_line, any_sheet, case_in, random_frame, refused_frame, without_pays};
 use super::{Damaged, BYTE};
 use crate::frames::LARGEST_TEXT;
 use crate::random::Random;
-use crate::samples::accepted::{self, whole_case, whole_case_in};
+use crate::samples::accepted::{self, whole_case};
 use crate::samples::writing::{case_text, digits, frames_of, member_frame, text_of};
 
 pub(super) fn one_byte_over(random: &mut Random) -> Damaged {
@@ -197,10 +197,7 @@ pub(super) fn pays_of_other_section(
     section: u64,
     past: bool,
 ) -> Damaged {
-    let mut case = match section {
-        0 => accepted::case_without_section(random),
-        _ => whole_case_in(random, section),
-    };
+    let mut case = case_in(random, section);
     without_pays(&mut case);
     let mut frame = random_frame(random, kind);
     if past {

@@ -82,6 +82,14 @@ pub(super) fn refused_at_end(case: &Case) -> Damaged {
     }
 }
 
+/// An accepted case of a member of the section, or without one.
+pub(super) fn case_in(random: &mut Random, section: u64) -> Case {
+    match section {
+        0 => accepted::case_without_section(random),
+        _ => whole_case_in(random, section),
+    }
+}
+
 /// An accepted case with a frame of the kind, in the section whose pays it is or in either.
 fn case_with_kind(random: &mut Random, kind: u8) -> Case {
     match kind {
