@@ -121,14 +121,14 @@ int main(void)
     static const struct post equal_weeks[] = {{1200, 2250, 1000000}, {1200, 2250, 1200000}};
     static const struct post differing_weeks[] = {{1200, 2250, 5300000}, {1140, 2400, 4750000}};
     static const char printed[] =
-        "0107B2040107F504010043\n"
+        "0107B2040107F50401004300\n"
         "0207DF0000\n"
         "0305DC08CA0027AC40\n"
         "03038408CA00124F80\n";
     static const char ten_pays[] =
-        "0107B2040107F504010243\n"
+        "0107B2040107F50401024341\n"
         "08002DC6C0002F4D600030D400003D0900003E8FA000401640003B82600039FBC0003875200036EE801C84\n";
-    static const char without_factor[] = "0107AF0B0107EE0A110043\n";
+    static const char without_factor[] = "0107AF0B0107EE0A11004300\n";
 
     int failed = 0;
 

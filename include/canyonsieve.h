@@ -28,10 +28,10 @@ extern "C" {
 
 /* The version of this interface. It is raised by one when a function is added, when a struct or a frame changes, and
  * when a kind of frame is added. Code that was written for one version asks for it:
- *     #if CANYONSIEVE_VERSION != 4
+ *     #if CANYONSIEVE_VERSION != 5
  *     #error "another version of canyonsieve.h"
  *     #endif */
-#define CANYONSIEVE_VERSION 4
+#define CANYONSIEVE_VERSION 5
 
 /* The limits. */
 #define CANYONSIEVE_MAX_POSTS 16         /* posts of a year */
@@ -100,7 +100,10 @@ enum canyonsieve_refusal {
      * pay is not that of year 1. */
     CANYONSIEVE_EMPLOYERS = 26,
     /* In a frame of ten pays a pay above 1,000,000,000 pence, or more than 16,425 days. */
-    CANYONSIEVE_TEN_PAYS = 27
+    CANYONSIEVE_TEN_PAYS = 27,
+    /* A member frame whose last byte is not the pension age of its section: 0 without a section, 60 in the 1995, 65 in
+     * the 2008. Tried after the whole of 5. */
+    CANYONSIEVE_SECTION_AGE = 28
 };
 
 /* A refusal in words, for a message to a person; for a number that is no refusal, words that say so. Never NULL, and
@@ -154,6 +157,8 @@ CANYONSIEVE_CHECKED static inline const char *canyonsieve_refusal_words(uint64_t
         return "an employer without days, more than 366 days of both, or a final pay that is not that of year 1";
     case CANYONSIEVE_TEN_PAYS:
         return "ten pays or their days out of range";
+    case CANYONSIEVE_SECTION_AGE:
+        return "a pension age that is not that of the member's section";
     default:
         return "no refusal of this version";
     }
@@ -247,11 +252,13 @@ CANYONSIEVE_CHECKED struct canyonsieve_charges canyonsieve_change_of_employer(
  * larger net lump sum.
  *
  * text: length bytes, lines of digits 0-9 and A-F, two to a byte, each line ended by a line feed and holding one frame;
- * docs/FRAMES.md has the frames. It stays the caller's, and nothing of it is kept. It may be NULL only where length is
- * 0.
+ * docs/FRAMES.md has the frames. From version 5 on a member frame has 12 bytes, the last of them the pension age of the
+ * section; one of 11 bytes, as before, is refused with 3. The text stays the caller's, and nothing of it is kept. It
+ * may be NULL only where length is 0.
  *
  * Refusals: 1, the text is too long (line 0); then line by line, the first line being 1, and the first line that is
- * refused ends the reading: 2, 3, 4, then 5 to 11 or 27 by the frame's own fields; at the end, line 0: 4, 12, 13, 14.
+ * refused ends the reading: 2, 3, 4, then 5 to 11, 27 or 28 by the frame's own fields; at the end, line 0: 4, 12, 13,
+ * 14.
  *
  * It needs under 8 kilobytes of stack, the other calls under 4. */
 CANYONSIEVE_CHECKED struct canyonsieve_outcome canyonsieve_case(const uint8_t *text, size_t length);

@@ -2,7 +2,7 @@
  * figures of the paper. Prints how many checks there were; stops at the first that fails, with its line. */
 #include "canyonsieve.h"
 
-#if CANYONSIEVE_VERSION != 4
+#if CANYONSIEVE_VERSION != 5
 #error "another version of canyonsieve.h"
 #endif
 
@@ -381,14 +381,14 @@ static void refused(int line, const char *text, uint64_t refusal, uint64_t at)
     outcome(line, text, strlen(text), expected);
 }
 
-#define MEMBER "0107B2040107F504010043\n"
+#define MEMBER "0107B2040107F50401004300\n"
 #define YEAR "0207DF0000\n"
 #define POSTS "0305DC08CA0027AC40\n03038408CA00124F80\n"
 
 /* Born 31 August 1970, pension age 60: out on the last day of June 2030, and on the day before it. A post that earns a
  * pension of 500.00, and factors of 0.990 and 0.980. */
-#define LAST_OF_JUNE "0107B2081F07EE061E003C\n"
-#define DAY_BEFORE_IT "0107B2081F07EE061D003C\n"
+#define LAST_OF_JUNE "0107B2081F07EE061E003C00\n"
+#define DAY_BEFORE_IT "0107B2081F07EE061D003C00\n"
 #define POST_OF_500 "03070808CA002932E0\n"
 #define TWO_MONTHS "0500000203DE0000\n"
 #define THREE_MONTHS "0500000303D40000\n"
@@ -402,7 +402,7 @@ static void cases(void)
     worked(__LINE__, MEMBER YEAR POSTS, 66667, 0, 0, 0);
     worked(__LINE__, MEMBER, 0, 0, 0, 0);
     /* A member with a section: the final pay and the charge of the starred figure. */
-    worked(__LINE__, "0107B2040107F504010143\n" YEAR POSTS "04002DC6C0002F4D600030D400003D09000041004100410" "71C8407E4\n", 66667, 1000000,
+    worked(__LINE__, "0107B2040107F5040101433C\n" YEAR POSTS "04002DC6C0002F4D600030D400003D09000041004100410" "71C8407E4\n", 66667, 1000000,
            3000000, 3433600);
 
     /* The factor is that of the months that the last day completed. */
@@ -419,11 +419,11 @@ static void cases(void)
     refused(__LINE__, MEMBER "07\n", CANYONSIEVE_FRAME, 2);
     refused(__LINE__, YEAR, CANYONSIEVE_ORDER, 1);
     refused(__LINE__, MEMBER MEMBER, CANYONSIEVE_ORDER, 2);
-    refused(__LINE__, "0107B2041F07F504010043\n", CANYONSIEVE_DATES, 1);
+    refused(__LINE__, "0107B2041F07F50401004300\n", CANYONSIEVE_DATES, 1);
     refused(__LINE__, MEMBER "0207DE0000\n", CANYONSIEVE_YEAR, 2);
     refused(__LINE__, MEMBER YEAR "0308CB08CA0027AC40\n", CANYONSIEVE_POST, 3);
-    refused(__LINE__, "0107B2040107F504010143\n", CANYONSIEVE_NO_FINAL_PAY, 0);
-    refused(__LINE__, "0107B2040107F503010043\n", CANYONSIEVE_NO_FACTOR, 0);
+    refused(__LINE__, "0107B2040107F5040101433C\n", CANYONSIEVE_NO_FINAL_PAY, 0);
+    refused(__LINE__, "0107B2040107F50301004300\n", CANYONSIEVE_NO_FACTOR, 0);
     refused(__LINE__, MEMBER YEAR POSTS "06000001046C0064\n", CANYONSIEVE_DEBIT_ABOVE, 0);
     worked(__LINE__, MEMBER YEAR POSTS "06000001046B0064\n", 0, 0, 0, 0);
 
@@ -444,10 +444,10 @@ static void cases(void)
 
 /* Members of the 2008 Section, born 1 April 1970: out at 67, and at 63, which is 48 months early in the 2015 Scheme and
  * 24 in the section. Ten pays whose best three years average 41,000.00, with 7,300 days: a pension of 13,666.67. */
-#define MEMBER_2008 "0107B2040107F504010243\n"
-#define EARLY_2008 "0107B2040107F104010243\n"
+#define MEMBER_2008 "0107B2040107F50401024341\n"
+#define EARLY_2008 "0107B2040107F10401024341\n"
 #define TEN_PAYS "08002DC6C0002F4D600030D400003D0900003E8FA000401640003B82600039FBC0003875200036EE801C84\n"
-#define MEMBER_1995 "0107B2040107F504010143\n"
+#define MEMBER_1995 "0107B2040107F5040101433C\n"
 #define FINAL_PAY "04002DC6C0002F4D600030D400003D0900004100410041071C8407E4\n"
 #define FACTOR_2015 "0500003003840000\n"
 #define FACTOR_2008 "0501001803200000\n"
@@ -526,7 +526,7 @@ static void cases_2008(void)
 /* Each section has its own frame of pays, one of it, in its place and of its length. */
 static void frames_2008(void)
 {
-    refused(__LINE__, "0107B2040107F504010343\n", CANYONSIEVE_DATES, 1);
+    refused(__LINE__, "0107B2040107F50401034300\n", CANYONSIEVE_DATES, 1);
     refused(__LINE__, MEMBER_2008, CANYONSIEVE_NO_FINAL_PAY, 0);
     refused(__LINE__, EARLY_2008, CANYONSIEVE_NO_FINAL_PAY, 0);
     refused(__LINE__, MEMBER_2008 FINAL_PAY, CANYONSIEVE_ORDER, 2);
@@ -551,14 +551,45 @@ static void frames_2008(void)
     refused(__LINE__, MEMBER "0801001803200000\n", CANYONSIEVE_FRAME, 2);
 }
 
+/* The pension age of the section, the last byte of a member frame: each section with every byte; the months early that
+ * are counted to it; 3 for the frame of 11 and of 13 bytes, then 4, then 5, before 28. */
+static void section_ages(void)
+{
+    static const unsigned own[] = {0, 60, 65};
+    char text[32];
+
+    for (unsigned section = 0; section < COUNT(own); section++)
+        for (unsigned byte = 0; byte < 256; byte++) {
+            uint64_t alone = section == 0 ? CANYONSIEVE_ACCEPTED : CANYONSIEVE_NO_FINAL_PAY;
+            uint64_t refusal = byte == own[section] ? alone : CANYONSIEVE_SECTION_AGE;
+            const uint64_t expected[6] = {refusal, refusal == CANYONSIEVE_SECTION_AGE, 0, 0, 0, 0};
+            sprintf(text, "0107B2040107F50401%02X43%02X\n", section, byte);
+            outcome(__LINE__, text, strlen(text), expected);
+        }
+    /* Out at 55: 144 months before 67, 60 before 60. */
+    worked(__LINE__, "0107B2040107E9040101433C\n" FINAL_PAY "0500009003840000\n0501003C03200384\n", 0, 800000, 2700000,
+           3433600);
+    refused(__LINE__, "0107B2040107E9040101433C\n" FINAL_PAY "0500009003840000\n0501007803200384\n",
+            CANYONSIEVE_NO_FACTOR, 0);
+    refused(__LINE__, "0107B2040107F504010043\n", CANYONSIEVE_FRAME, 1);
+    refused(__LINE__, "0107B2040107F504010343\n", CANYONSIEVE_FRAME, 1);
+    refused(__LINE__, "0107B2040107F5040100430000\n", CANYONSIEVE_FRAME, 1);
+    refused(__LINE__, MEMBER "0107B2040107F5040100433C\n", CANYONSIEVE_ORDER, 2);
+    refused(__LINE__, "0107B2040107F5040103433C\n", CANYONSIEVE_DATES, 1);
+    refused(__LINE__, "0107B2040107F5040100363C\n", CANYONSIEVE_DATES, 1);
+    refused(__LINE__, "0107B2041F07F50401014300\n", CANYONSIEVE_DATES, 1);
+    refused(__LINE__, "0107B2040207B204010243FF\n", CANYONSIEVE_DATES, 1);
+}
+
 /* Each refusal has words of its own, and any other number the same words. */
 static void words(void)
 {
-    static const uint64_t others[] = {15, 20, 28, 255, (UINT64_C(1) << 32) + 7, UINT64_MAX};
+    static const uint64_t others[] = {15, 20, 29, 255, (UINT64_C(1) << 32) + 7, UINT64_MAX};
     const char *none = canyonsieve_refusal_words(UINT64_C(1) << 40);
 
     same(__LINE__, "refusal of ten pays", CANYONSIEVE_TEN_PAYS, 27);
-    for (uint64_t n = 0; n <= CANYONSIEVE_TEN_PAYS; n++) {
+    same(__LINE__, "refusal of a section's pension age", CANYONSIEVE_SECTION_AGE, 28);
+    for (uint64_t n = 0; n <= CANYONSIEVE_SECTION_AGE; n++) {
         int is_refusal = n <= CANYONSIEVE_DEBIT_ABOVE || n >= CANYONSIEVE_POST_COUNT;
         same(__LINE__, "words of its own", strcmp(canyonsieve_refusal_words(n), none) != 0, (uint64_t)is_refusal);
         for (uint64_t m = 0; is_refusal && m < n; m++)
@@ -616,6 +647,7 @@ int main(void)
     pensions_2008();
     cases_2008();
     frames_2008();
+    section_ages();
     words();
     limits();
     printf("%u checks passed\n", checks);
