@@ -4,7 +4,7 @@
 pub mod section_2008;
 
 use second::benefits::FinalPay;
-use second::calendar::Date;
+use second::calendar::{Date, SECTION_PENSION_AGES};
 use second::cases::{Case, Year};
 use second::frames::{Debit, Factor, Member};
 use second::posts::Post;
@@ -203,6 +203,7 @@ fn member(random: &mut Random, section: u64, pension_age: u64, months: u64) -> M
         retirement,
         section,
         pension_age,
+        section_pension_age: SECTION_PENSION_AGES[section as usize],
     }
 }
 

@@ -42,7 +42,7 @@ mod tests {
     use second::Outcome;
 
     const PRINTED: &[u8] =
-        b"0107B2040107F504010043\n0207DF0000\n0305DC08CA0027AC40\n03038408CA00124F80\n";
+        b"0107B2040107F50401004300\n0207DF0000\n0305DC08CA0027AC40\n03038408CA00124F80\n";
 
     #[test]
     fn the_printed_case_gives_its_pence() {
@@ -53,7 +53,7 @@ mod tests {
     #[test]
     fn a_beginning_of_a_text_is_refused_at_its_last_line() {
         assert_eq!((case(b"").refusal, case(b"").line), (4, 0));
-        for length in 1..23 {
+        for length in 1..25 {
             let outcome = case(&PRINTED[..length]);
             assert_eq!((outcome.refusal, outcome.line), (2, 1));
         }
@@ -63,15 +63,15 @@ mod tests {
 
     #[test]
     fn a_line_feed_too_early_cuts_the_line_there() {
-        let outcome = case(b"0107B2040107F504010043\n0207\n7DF000\n");
+        let outcome = case(b"0107B2040107F50401004300\n0207\n7DF000\n");
         assert_eq!((outcome.refusal, outcome.line), (3, 2));
-        let outcome = case(b"0107B2040107F504010043\n02078\nDF00\n");
+        let outcome = case(b"0107B2040107F50401004300\n02078\nDF00\n");
         assert_eq!((outcome.refusal, outcome.line), (2, 2));
     }
 
     /// A member of the 2008 Section who retires at 67, and 7,300 days of which the best three years
     /// average £41,000.
-    const MEMBER_2008: &str = "0107B2040107F504010243\n";
+    const MEMBER_2008: &str = "0107B2040107F50401024341\n";
     const TEN_PAYS: &str = "08002DC6C0002F4D600030D400003D0900003E8FA000401640\
                             003B82600039FBC0003875200036EE801C84\n";
 
@@ -123,7 +123,7 @@ mod tests {
 
     #[test]
     fn the_2008_section_is_reduced_from_65_and_has_its_debit() {
-        let early = "0107B2040107F104010243\n";
+        let early = "0107B2040107F10401024341\n";
         let factor_2015 = "0500003003840000\n";
         let factor = "0501001803200000\n";
         assert_pension_2008(&[early, TEN_PAYS, factor_2015, factor], 1_093_334);
@@ -136,10 +136,10 @@ mod tests {
 
     #[test]
     fn a_section_has_its_own_pay_frame() {
-        let no_section = "0107B2040107F504010043\n";
-        let section_1995 = "0107B2040107F504010143\n";
+        let no_section = "0107B2040107F50401004300\n";
+        let section_1995 = "0107B2040107F5040101433C\n";
         let final_pay = "04002DC6C0002F4D600030D400003D0900004100410041071C8407E4\n";
-        assert_refused(&["0107B2040107F504010343\n"], 5, 1);
+        assert_refused(&["0107B2040107F50401034300\n"], 5, 1);
         assert_refused(&[MEMBER_2008], 12, 0);
         assert_refused(&[MEMBER_2008, final_pay], 4, 2);
         assert_refused(&[section_1995, TEN_PAYS], 4, 2);

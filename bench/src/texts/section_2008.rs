@@ -1,6 +1,8 @@
-//! Texts of the 2008 Section for the comparison: drawn ones, and one for each cause of refusal.
+//! Texts of the 2008 Section for the comparison: drawn ones, and one for each cause of refusal, the
+//! pension ages of the other sections among them.
 
 use super::{factors, member, posts};
+use second::calendar::SECTION_PENSION_AGES;
 use second::frames::{Debit, Factor};
 use second::random::Random;
 use second::samples::writing::{
@@ -17,8 +19,9 @@ const FACTOR: u8 = 5;
 const DEBIT: u8 = 6;
 const TEN_PAYS: u8 = 8;
 
-/// Where the section, an 08's pays and its days stand in their frames.
+/// Where the section, its pension age, an 08's pays and its days stand in their frames.
 const SECTION: usize = 9;
+const SECTION_PENSION_AGE: usize = 11;
 const PAYS: [usize; 10] = [1, 5, 9, 13, 17, 21, 25, 29, 33, 37];
 const DAYS: usize = 41;
 
@@ -26,7 +29,7 @@ const DAYS: usize = 41;
 const MOST_DAYS: u64 = 16_425;
 
 /// The section's pension age in months.
-const PENSION_AGE: u64 = 12 * 65;
+const PENSION_AGE: u64 = 12 * SECTION_PENSION_AGES[2];
 
 /// An 04 that stands with section 1, of noughts but for its factor.
 fn final_pay() -> Vec<u8> {
@@ -109,6 +112,13 @@ impl Frames {
         frames
     }
 
+    /// With a member of another section.
+    fn in_section(&self, section: u64) -> Frames {
+        let age = SECTION_PENSION_AGES[section as usize];
+        let other = self.with_number(MEMBER, SECTION, 1, section);
+        other.with_number(MEMBER, SECTION_PENSION_AGE, 1, age)
+    }
+
     /// With one more frame at a place.
     fn with_frame(&self, place: usize, frame: Vec<u8>) -> Frames {
         let mut frames = self.clone();
@@ -156,7 +166,7 @@ impl Refused {
         }
         self.add(27, frames.with_number(TEN_PAYS, DAYS, 2, past_days));
         for section in [0, 1] {
-            let other = frames.with_number(MEMBER, SECTION, 1, section);
+            let other = frames.in_section(section);
             self.add(4, other.with_number(TEN_PAYS, DAYS, 2, past_days));
             self.add(4, other);
         }
@@ -174,8 +184,7 @@ impl Refused {
             self.add(4, frames.with_frame(pay_place + 1, again));
         }
         self.add(4, frames.with_frame(pay_place + 1, final_pay()));
-        let of_1995 = frames.with_number(MEMBER, SECTION, 1, 1);
-        let of_1995 = of_1995.with_pay(final_pay());
+        let of_1995 = frames.in_section(1).with_pay(final_pay());
         self.add(4, of_1995.with_frame(pay_place + 1, ten_pays.clone()));
         let without_pay = frames.without(|frame| frame[0] == TEN_PAYS);
         for kind in [FACTOR, DEBIT] {
@@ -191,6 +200,26 @@ impl Refused {
         self.add(3, frames.with_pay([&ten_pays[..], &[0]].concat()));
         for kind in [7, 9] {
             self.add(3, frames.with_number(TEN_PAYS, 0, 1, kind));
+        }
+    }
+
+    /// A pension age that is not the section's, alone, with a refused field and in a second 01; the
+    /// 01 without it, and with one more byte.
+    fn add_ages(&mut self, frames: &Frames) {
+        for (section, others) in [(0, [60, 65, 0xFF]), (1, [0, 65, 0xFF]), (2, [0, 60, 0xFF])] {
+            for age in others {
+                let other = frames.in_section(section);
+                let other = other.with_number(MEMBER, SECTION_PENSION_AGE, 1, age);
+                self.add(5, other.with_number(MEMBER, SECTION + 1, 1, 54));
+                self.add(5, other.with_number(MEMBER, SECTION, 1, 3));
+                self.add(4, frames.with_frame(1, other.0[0].clone()));
+                self.add(28, other);
+            }
+        }
+        for length in [11, 13] {
+            let mut other = frames.clone();
+            other.0[0].resize(length, 0);
+            self.add(3, other);
         }
     }
 
@@ -224,6 +253,7 @@ pub fn refused(random: &mut Random) -> Vec<(u64, Vec<u8>)> {
     refused.add_pays(random, &frames);
     refused.add_orders(&frames);
     refused.add_lengths(&frames);
+    refused.add_ages(&frames);
     refused.add_others(random, &frames);
     refused.0
 }

@@ -31,12 +31,12 @@ impl Section {
         }
     }
 
-    /// The age to which its months early are counted.
-    fn pension_age(self) -> Option<i64> {
+    /// The pension age that an 01 has of it.
+    fn pension_age(self) -> u64 {
         match self {
-            Section::None => None,
-            Section::Of1995 => Some(60),
-            Section::Of2008 => Some(65),
+            Section::None => 0,
+            Section::Of1995 => 60,
+            Section::Of2008 => 65,
         }
     }
 
@@ -134,20 +134,23 @@ impl Case {
     }
 
     fn take_member<'t>(&mut self, text: &'t [u8]) -> Result<&'t [u8], u64> {
-        let (frame, after) = line::<23, _>(text, |fields| {
+        let (frame, after) = line::<25, _>(text, |fields| {
             let birth = Date(fields.number(4));
             let retirement = Date(fields.number(4));
-            (birth, retirement, fields.number(1), fields.number(1))
+            let section = fields.number(1);
+            let pension_ages = [fields.number(1), fields.number(1)];
+            (birth, retirement, section, pension_ages)
         })?;
-        let (birth, retirement, section, pension_age) = frame;
+        let (birth, retirement, section, [pension_age, section_pension_age]) = frame;
         unless(self.stage == Stage::Nothing, 4)?;
         try_dates(birth, retirement)?;
         let section = Section::numbered(section)?;
         unless((55..=75).contains(&pension_age), 5)?;
+        unless(section_pension_age == section.pension_age(), 28)?;
         let age = completed_months(birth, retirement);
         self.schemes[0].months_early = 12 * pension_age as i64 - age;
-        if let Some(pension_age) = section.pension_age() {
-            self.schemes[1].months_early = 12 * pension_age - age;
+        if section != Section::None {
+            self.schemes[1].months_early = 12 * section_pension_age as i64 - age;
         }
         self.section = section;
         self.stage = Stage::Member;
