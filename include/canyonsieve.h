@@ -60,7 +60,7 @@ enum canyonsieve_refusal {
      * frame. */
     CANYONSIEVE_ORDER = 4,
     /* A year outside 1900 to 2100, a month outside 1 to 12, a day that its month does not have, retirement
-     * before birth, a section above 2, or a pension age outside 55 to 75. */
+     * before birth, a section above 2, or the member's pension age outside 55 to 75. */
     CANYONSIEVE_DATES = 5,
     /* An April year outside 2015 to 2100 or not the next, a revaluation above 2,000, or a 51st year. */
     CANYONSIEVE_YEAR = 6,

@@ -385,6 +385,14 @@ static void refused(int line, const char *text, uint64_t refusal, uint64_t at)
 #define YEAR "0207DF0000\n"
 #define POSTS "0305DC08CA0027AC40\n03038408CA00124F80\n"
 
+/* Members of the 1995 Section, born 1 April 1970: out at 67, and at 55, which is 144 months early in the 2015 Scheme,
+ * 60 in the section, and 120 to the other section's age. The final pay is that of the starred charge. */
+#define MEMBER_1995 "0107B2040107F5040101433C\n"
+#define EARLY_1995 "0107B2040107E9040101433C\n"
+#define FINAL_PAY "04002DC6C0002F4D600030D400003D0900004100410041071C8407E4\n"
+#define FACTORS_1995 "0500009003840000\n0501003C03200384\n"
+#define FACTORS_TO_65 "0500009003840000\n0501007803200384\n"
+
 /* Born 31 August 1970, pension age 60: out on the last day of June 2030, and on the day before it. A post that earns a
  * pension of 500.00, and factors of 0.990 and 0.980. */
 #define LAST_OF_JUNE "0107B2081F07EE061E003C00\n"
@@ -402,8 +410,7 @@ static void cases(void)
     worked(__LINE__, MEMBER YEAR POSTS, 66667, 0, 0, 0);
     worked(__LINE__, MEMBER, 0, 0, 0, 0);
     /* A member with a section: the final pay and the charge of the starred figure. */
-    worked(__LINE__, "0107B2040107F5040101433C\n" YEAR POSTS "04002DC6C0002F4D600030D400003D09000041004100410" "71C8407E4\n", 66667, 1000000,
-           3000000, 3433600);
+    worked(__LINE__, MEMBER_1995 YEAR POSTS FINAL_PAY, 66667, 1000000, 3000000, 3433600);
 
     /* The factor is that of the months that the last day completed. */
     worked(__LINE__, LAST_OF_JUNE YEAR POST_OF_500 TWO_MONTHS, 49500, 0, 0, 0);
@@ -422,7 +429,7 @@ static void cases(void)
     refused(__LINE__, "0107B2041F07F50401004300\n", CANYONSIEVE_DATES, 1);
     refused(__LINE__, MEMBER "0207DE0000\n", CANYONSIEVE_YEAR, 2);
     refused(__LINE__, MEMBER YEAR "0308CB08CA0027AC40\n", CANYONSIEVE_POST, 3);
-    refused(__LINE__, "0107B2040107F5040101433C\n", CANYONSIEVE_NO_FINAL_PAY, 0);
+    refused(__LINE__, MEMBER_1995, CANYONSIEVE_NO_FINAL_PAY, 0);
     refused(__LINE__, "0107B2040107F50301004300\n", CANYONSIEVE_NO_FACTOR, 0);
     refused(__LINE__, MEMBER YEAR POSTS "06000001046C0064\n", CANYONSIEVE_DEBIT_ABOVE, 0);
     worked(__LINE__, MEMBER YEAR POSTS "06000001046B0064\n", 0, 0, 0, 0);
@@ -447,8 +454,6 @@ static void cases(void)
 #define MEMBER_2008 "0107B2040107F50401024341\n"
 #define EARLY_2008 "0107B2040107F10401024341\n"
 #define TEN_PAYS "08002DC6C0002F4D600030D400003D0900003E8FA000401640003B82600039FBC0003875200036EE801C84\n"
-#define MEMBER_1995 "0107B2040107F5040101433C\n"
-#define FINAL_PAY "04002DC6C0002F4D600030D400003D0900004100410041071C8407E4\n"
 #define FACTOR_2015 "0500003003840000\n"
 #define FACTOR_2008 "0501001803200000\n"
 
@@ -566,11 +571,8 @@ static void section_ages(void)
             sprintf(text, "0107B2040107F50401%02X43%02X\n", section, byte);
             outcome(__LINE__, text, strlen(text), expected);
         }
-    /* Out at 55: 144 months before 67, 60 before 60. */
-    worked(__LINE__, "0107B2040107E9040101433C\n" FINAL_PAY "0500009003840000\n0501003C03200384\n", 0, 800000, 2700000,
-           3433600);
-    refused(__LINE__, "0107B2040107E9040101433C\n" FINAL_PAY "0500009003840000\n0501007803200384\n",
-            CANYONSIEVE_NO_FACTOR, 0);
+    worked(__LINE__, EARLY_1995 FINAL_PAY FACTORS_1995, 0, 800000, 2700000, 3433600);
+    refused(__LINE__, EARLY_1995 FINAL_PAY FACTORS_TO_65, CANYONSIEVE_NO_FACTOR, 0);
     refused(__LINE__, "0107B2040107F504010043\n", CANYONSIEVE_FRAME, 1);
     refused(__LINE__, "0107B2040107F504010343\n", CANYONSIEVE_FRAME, 1);
     refused(__LINE__, "0107B2040107F5040100430000\n", CANYONSIEVE_FRAME, 1);

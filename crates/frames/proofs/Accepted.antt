@@ -31,14 +31,13 @@ member-good m e =
     let refusals = neither _ (unless (eqb (m .«section_pension_age») (sectionPensionAge (m .section))) 28) e in
     let none = neither (datesRefusal (m .birth) (m .retirement) (m .«pension_age»)) _ (refusals .0) in
     let section : leb (m .section) 2 ≡ true = passed _ 5 (omega arith) (none .1) in
-    let of-section : eqb (m .«section_pension_age») (sectionPensionAge (m .section)) ≡ true = passed _ 28 (omega arith) (refusals .1) in
     let age = accepted-age _ _ _ (none .0) in
     record {
       dates = accepted _ _ _ (none .0);
       section = search parts;
       age-from = age .0;
       age-to = age .1;
-      age-of-section = eqb-true _ _ of-section;
+      age-of-section = eqb-true _ _ (passed _ 28 (omega arith) (refusals .1));
     }
 
 -- a year whose own fields stand

@@ -9,11 +9,11 @@ use Rattle.frames.specs.Frames.{dateAt, memberIn, frameLength, frameOf, 
 use Rattle.frames.specs.Limits.{memberRefusal}
 
 -- born on 1 April 1970, out at 67: the refusal by section, pension age and the section's pension age
-abbrev refusalAt : ℕ → ℕ → ℕ → ℕ
+abbrev pub refusalAt : ℕ → ℕ → ℕ → ℕ
 refusalAt section age sectionAge = memberRefusal (memberIn (1 ∷ 7 ∷ 178 ∷ 4 ∷ 1 ∷ 7 ∷ 245 ∷ 4 ∷ 1 ∷ section ∷ age ∷ sectionAge ∷ []))
 
 -- with 0, 60, 65 and 255
-abbrev agesOf : ℕ → List ℕ
+abbrev pub agesOf : ℕ → List ℕ
 agesOf section = refusalAt section 67 0 ∷ refusalAt section 67 60 ∷ refusalAt section 67 65 ∷ refusalAt section 67 255 ∷ []
 
 pub ages-shown : (agesOf 0 ∷ agesOf 1 ∷ agesOf 2 ∷ agesOf 3 ∷ []) ≡ (0 ∷ 28 ∷ 28 ∷ 28 ∷ []) ∷ (28 ∷ 0 ∷ 28 ∷ 28 ∷ []) ∷ (28 ∷ 28 ∷ 0 ∷ 28 ∷ []) ∷ (5 ∷ 5 ∷ 5 ∷ 5 ∷ []) ∷ []
@@ -21,7 +21,7 @@ unfolding oneAt twoAt isLeap monthLength dateStands isBefore datesRefusal dateAt
 ages-shown = refl
 
 -- pension age 54 and 76, born on 31 April, out a day before birth, each with an age that is not the section's
-abbrev fives : List ℕ
+abbrev pub fives : List ℕ
 fives =
     refusalAt 0 54 60
     ∷ refusalAt 1 76 65
@@ -34,7 +34,7 @@ unfolding oneAt twoAt isLeap monthLength dateStands isBefore datesRefusal dateAt
 five-before-age = refl
 
 -- the frame of the earlier length, and one of a byte more
-abbrev otherLengths : List Decoded
+abbrev pub otherLengths : List Decoded
 otherLengths =
     decoded (1 ∷ 7 ∷ 178 ∷ 4 ∷ 1 ∷ 7 ∷ 245 ∷ 4 ∷ 1 ∷ 0 ∷ 67 ∷ [])
     ∷ decoded (1 ∷ 7 ∷ 178 ∷ 4 ∷ 1 ∷ 7 ∷ 245 ∷ 4 ∷ 1 ∷ 0 ∷ 67 ∷ 0 ∷ 0 ∷ [])

@@ -2,7 +2,7 @@
 
 use super::sheets::{case_in, places_of, refused_at, refused_frame};
 use super::{Damaged, BYTE, FOUR, PAIR, PAST_PAY};
-use crate::calendar::{month_length, Date, SECTION_PENSION_AGES};
+use crate::calendar::{month_length, Date};
 use crate::cases::{Case, MOST_YEARS};
 use crate::frames::{Debit, Factor, Member};
 use crate::posts::{Post, MOST_POSTS};
@@ -121,10 +121,11 @@ fn changed_and_age(random: &mut Random, change: fn(&mut Random, &mut Member)) ->
     let section = random.below(3);
     let mut case = case_in(random, section);
     let member = case.member.as_mut().expect("a member");
-    member.section_pension_age = random.pick(&[0, 60, 65, BYTE]);
-    if SECTION_PENSION_AGES.get(section as usize) == Some(&member.section_pension_age) {
+    let other = random.pick(&[0, 60, 65, BYTE]);
+    if other == member.section_pension_age {
         return changed_and_age(random, change);
     }
+    member.section_pension_age = other;
     change(random, member);
     refused_member(random, &case)
 }
