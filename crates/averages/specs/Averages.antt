@@ -5,8 +5,9 @@ use mathlib.Core.List.{List, [], _∷_, map}
 use lib.Dec.{leb, ltb}
 use lib.ListN.{length}
 use Rattle.measures.specs.Limits.{highestPay}
-use Rattle.measures.specs.Rounding.{rounded}
+use Rattle.measures.specs.Rounding.{rounded, way, upward}
 use Rattle.measures.specs.Refusals.{unless}
+use Rattle.measures.specs.declared.Way.{Way}
 use Rattle.benefits.specs.Limits.{mostDays}
 use Rattle.averages.specs.declared.TenPays.{TenPays}
 use Rattle.averages.specs.declared.Three.{Three}
@@ -55,13 +56,17 @@ average sum = rounded sum 3
 unfoldable pub averagePay : TenPays → ℕ
 averagePay t = average (bestThree t .sum .0)
 
+-- which way it went: "its one average taken, the best before rounding" (2.6)
+unfoldable pub averageWay : TenPays → Way
+averageWay t = way (bestThree t .sum .0) 3
+
 -- the averages of all: "The largest-benefit statement ranges over which three consecutive years are taken."
 abbrev pub averages : TenPays → List ℕ
 averages t = map average (threes (paysOf t))
 
--- what a case holds: the pay, the year in which its three years end, and the days
+-- what a case holds: the pay, the year in which its three years end, the days, and 1 where the pay was rounded up
 unfoldable pub averaged : TenPays → AveragePay
-averaged t = record { pay = record { 0 = averagePay t }; year = bestThree t .year; days = t .days }
+averaged t = record { pay = record { 0 = averagePay t }; year = bestThree t .year; days = t .days; ups = upward (averageWay t) }
 
 -- ---- The pension
 
@@ -72,6 +77,10 @@ fullService2008 = 21900
 -- "Its pension is rounded(pay × days/21,900)"
 unfoldable pub pension2008 : ℕ → ℕ → ℕ
 pension2008 pay days = rounded (pay * days) fullService2008
+
+-- which way it went
+unfoldable pub pension2008Way : ℕ → ℕ → Way
+pension2008Way pay days = way (pay * days) fullService2008
 
 -- ---- When it declines
 

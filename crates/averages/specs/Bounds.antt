@@ -23,3 +23,4 @@ pub record TenPaysBounds (t : TenPays) : Type 0 where
 pub record AveragePayBounds (a : AveragePay) : Type 0 where
   pub pay : a .pay .0 ≤ highestPay
   pub days : a .days ≤ mostDays
+  pub ups : a .ups ≤ 1

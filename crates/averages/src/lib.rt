@@ -2,14 +2,17 @@
 use benefits::MOST_DAYS;
 use measures::HIGHEST_PAY;
 use measures::Pence;
+use measures::Stepped;
+use measures::in_pence;
 use measures::rounded;
 use measures::scaled;
+use measures::upward;
 ghost use mathlib.Core.Path.{_≡_};
 ghost use mathlib.Core.List.{[], _∷_};
 ghost use Prim.Native.Nat.{_+_, _≤_};
 ghost use Rattle.measures.specs.Limits.{highestPay};
 ghost use Rattle.benefits.specs.Limits.{mostDays};
-ghost use Rattle.averages.specs.Averages.{three, better, bestThree, averaged, pension2008, paysOf, paysWithin, tenPaysRefusal};
+ghost use Rattle.averages.specs.Averages.{three, better, bestThree, averaged, pension2008, pension2008Way, paysOf, paysWithin, tenPaysRefusal};
 ghost use Rattle.averages.specs.Bounds.{TenPaysBounds};
 
 // The days of service that earn a 2008 pension of the whole pay.
@@ -36,11 +39,13 @@ pub struct Three {
     pub year: u64,
 }
 
-// What a case holds of ten pays: their average pay, the year in which its three years end, and the service days.
+// What a case holds of ten pays: their average pay, the year in which its three years end, the service days,
+// and 1 where the average was rounded up, else 0.
 pub struct AveragePay {
     pub pay: Pence,
     pub year: u64,
     pub days: u64,
+    pub ups: u64,
 }
 
 // The pays of three years together, with the last of these years.
@@ -85,20 +90,22 @@ pub fn averaged(t: TenPays) -> AveragePay
     ensures { λ r. ⌜ r ≡ averaged t ⌝ }
 {
     let best = best_three(t);
-    let pay = Pence(rounded(best.sum.0, 3));
+    let average = rounded(best.sum.0, 3);
+    let way = average.way;
     AveragePay {
-        pay,
+        pay: Pence(average.number),
         year: best.year,
         days: t.days,
+        ups: upward(way),
     }
 }
 
 // The 2008 pension of a pay.
-pub fn pension_2008(pay: Pence, days: u64) -> Pence
+pub fn pension_2008(pay: Pence, days: u64) -> Stepped
     requires { ⌜ (pay .0 ≤ highestPay) × (days ≤ mostDays) ⌝ }
-    ensures { λ r. ⌜ r .0 ≡ pension2008 (pay .0) days ⌝ }
+    ensures { λ r. ⌜ (r .amount .0 ≡ pension2008 (pay .0) days) × (r .way ≡ pension2008Way (pay .0) days) ⌝ }
 {
-    Pence(scaled(pay.0, days, FULL_SERVICE))
+    in_pence(scaled(pay.0, days, FULL_SERVICE))
 }
 
 // Whether none of five pays is too high.

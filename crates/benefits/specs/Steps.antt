@@ -1,12 +1,14 @@
 -- Document 01's steps on amounts, in its order: years, final pay, reduction, debit, charge, abatement. Amounts are in pence.
+-- Beside each step that rounds, which way it went: "Every step that rounds passes that on" (2.6).
 use Prim.Native.Nat.{ℕ, _+_, _*_, _-_, _/_, _%_, _^_, min, max}
 use mathlib.Core.Bool.{Bool, _&&_, cond}
 use lib.Dec.{leb, eqb}
-use Rattle.measures.specs.Rounding.{rounded}
+use Rattle.measures.specs.Rounding.{rounded, way, upward}
 use Rattle.measures.specs.Limits.{highestPay}
 use Rattle.measures.specs.Refusals.{within, unless, firstRefusal}
 use Rattle.measures.specs.Answers.{answerWith}
 use Rattle.measures.specs.declared.Answer.{Answer}
+use Rattle.measures.specs.declared.Way.{Way}
 use Rattle.benefits.specs.declared.FinalPay.{FinalPay}
 use Rattle.benefits.specs.declared.BestPay.{BestPay}
 use Rattle.benefits.specs.Limits.{highestAllowance, mostDays, highestChargeFactor, highestAmount}
@@ -17,13 +19,25 @@ use Rattle.benefits.specs.Limits.{highestAllowance, mostDays, highestCha
 unfoldable pub revalued : ℕ → ℕ → ℕ
 revalued pension r = rounded (pension * (10000 + r)) 10000
 
+-- which way it went
+unfoldable pub revaluedWay : ℕ → ℕ → Way
+revaluedWay pension r = way (pension * (10000 + r)) 10000
+
 -- "rounded(aggregate/54)"
 unfoldable pub accrued : ℕ → ℕ
 accrued aggregate = rounded aggregate 54
 
+-- which way it went
+unfoldable pub accruedWay : ℕ → Way
+accruedWay aggregate = way aggregate 54
+
 -- "For each year in order it becomes rounded(pension × (10,000 + r)/10,000) + rounded(aggregate/54)"
 unfoldable pub afterYear : ℕ → ℕ → ℕ → ℕ
 afterYear pension r aggregate = revalued pension r + accrued aggregate
+
+-- how many of both went up
+unfoldable pub afterYearUps : ℕ → ℕ → ℕ → ℕ
+afterYearUps pension r aggregate = upward (revaluedWay pension r) + upward (accruedWay aggregate)
 
 -- ---- Final pay
 
@@ -55,6 +69,10 @@ fullService = 29200
 unfoldable pub sectionPension : ℕ → ℕ → ℕ
 sectionPension pay days = rounded (pay * days) fullService
 
+-- which way it went
+unfoldable pub sectionPensionWay : ℕ → ℕ → Way
+sectionPensionWay pay days = way (pay * days) fullService
+
 -- the lump sum for each penny of 1995 pension
 abbrev pub lumpTimes : ℕ
 lumpTimes = 3
@@ -69,11 +87,19 @@ lumpSum pension = lumpTimes * pension
 unfoldable pub reduced : ℕ → ℕ → ℕ
 reduced amount factor = rounded (amount * factor) 1000
 
+-- which way it went
+unfoldable pub reducedWay : ℕ → ℕ → Way
+reducedWay amount factor = way (amount * factor) 1000
+
 -- ---- Debit
 
 -- "Pension debit = rounded(pot × 100/factor in hundredths)"
 unfoldable pub pensionDebit : ℕ → ℕ → ℕ
 pensionDebit pot factor = rounded (pot * 100) factor
+
+-- which way it went
+unfoldable pub pensionDebitWay : ℕ → ℕ → Way
+pensionDebitWay pot factor = way (pot * 100) factor
 
 -- "lump debit in the 1995 Section = 3 times it"
 unfoldable pub lumpDebit : ℕ → ℕ
@@ -93,6 +119,10 @@ controlled controls year = ofYear year (bit controls 0) (bit controls 1) (bit co
 unfoldable pub raised : ℕ → ℕ → ℕ
 raised pay allowance = rounded (pay * (1000 + allowance)) 1000
 
+-- which way it went
+unfoldable pub raisedWay : ℕ → ℕ → Way
+raisedWay pay allowance = way (pay * (1000 + allowance)) 1000
+
 -- "three allowances in thousandths [..] (year 3 first)"
 abbrev pub allowanceIn : FinalPay → ℕ → ℕ
 allowanceIn f year = ofYear year (f .allowance3) (f .allowance2) (f .allowance1)
@@ -101,17 +131,37 @@ allowanceIn f year = ofYear year (f .allowance3) (f .allowance2) (f .allowance1)
 unfoldable pub allowedFrom : FinalPay → ℕ → ℕ → ℕ
 allowedFrom f year base = cond (controlled (f .controls) year) (raised base (allowanceIn f year)) (payIn f year)
 
+-- a year whose control bit is 0 rounds nothing
+unfoldable pub allowedFromWay : FinalPay → ℕ → ℕ → Way
+allowedFromWay f year base = cond (controlled (f .controls) year) (raisedWay base (allowanceIn f year)) Way.Exact
+
 -- "Allowed year 3 = rounded(pay 4 × (1,000 + a)/1,000)."
 unfoldable pub allowed3 : FinalPay → ℕ
 allowed3 f = allowedFrom f 3 (f .pay4 .0)
+
+-- which way it went
+unfoldable pub allowed3Way : FinalPay → Way
+allowed3Way f = allowedFromWay f 3 (f .pay4 .0)
 
 -- "Allowed year 2 applies its own a to the lower of pay 3 and allowed 3;"
 unfoldable pub allowed2 : FinalPay → ℕ
 allowed2 f = allowedFrom f 2 (min (f .pay3 .0) (allowed3 f))
 
+-- which way it went
+unfoldable pub allowed2Way : FinalPay → Way
+allowed2Way f = allowedFromWay f 2 (min (f .pay3 .0) (allowed3 f))
+
 -- "allowed year 1 likewise to year 2."
 unfoldable pub allowed1 : FinalPay → ℕ
 allowed1 f = allowedFrom f 1 (min (f .pay2 .0) (allowed2 f))
+
+-- which way it went
+unfoldable pub allowed1Way : FinalPay → Way
+allowed1Way f = allowedFromWay f 1 (min (f .pay2 .0) (allowed2 f))
+
+-- "all three allowed years count, whichever year gives final pay" (2.6)
+unfoldable pub allowedUps : FinalPay → ℕ
+allowedUps f = upward (allowed3Way f) + upward (allowed2Way f) + upward (allowed1Way f)
 
 -- the allowed pay of year 3, 2 or 1: "that year's allowed"
 unfoldable pub allowedIn : FinalPay → ℕ → ℕ
@@ -125,13 +175,29 @@ excess f = finalPay f - allowedIn f (finalYear f)
 unfoldable pub excessPension : ℕ → ℕ → ℕ
 excessPension over days = sectionPension over days
 
+-- which way it went
+unfoldable pub excessPensionWay : ℕ → ℕ → Way
+excessPensionWay over days = sectionPensionWay over days
+
 -- "Charge = rounded(excess pension × factor/100) + 3 × excess pension."
 unfoldable pub chargeFrom : ℕ → ℕ → ℕ → ℕ
 chargeFrom over days factor = rounded (excessPension over days * factor) 100 + lumpTimes * excessPension over days
 
+-- its one rounding, that of the product
+unfoldable pub chargeProductWay : ℕ → ℕ → ℕ → Way
+chargeProductWay over days factor = way (excessPension over days * factor) 100
+
+-- how many of both went up: the excess pension's and the product's
+unfoldable pub chargeFromUps : ℕ → ℕ → ℕ → ℕ
+chargeFromUps over days factor = upward (excessPensionWay over days) + upward (chargeProductWay over days factor)
+
 -- the employer's final pay charge
 unfoldable pub charge : FinalPay → ℕ
 charge f = chargeFrom (excess f) (f .days) (f .factor)
+
+-- how many roundings on the way to it went up
+unfoldable pub chargeUps : FinalPay → ℕ
+chargeUps f = allowedUps f + chargeFromUps (excess f) (f .days) (f .factor)
 
 -- ---- Abatement
 

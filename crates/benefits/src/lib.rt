@@ -1,15 +1,22 @@
 // The steps on amounts: the pension of the years, final pay, reduction, debits, the final pay charge and abatement.
 use measures::Answer;
+use measures::Counted;
 use measures::HIGHEST_PAY;
 use measures::Pence;
+use measures::Stepped;
+use measures::Way;
+use measures::in_pence;
 use measures::rounded;
 use measures::scaled;
+use measures::upward;
+use measures::upward_of_two;
 ghost use mathlib.Core.Path.{_≡_};
-ghost use Prim.Native.Nat.{_-_, _^_, _≤_, _<_, min, max};
+ghost use Prim.Native.Nat.{_+_, _-_, _^_, _≤_, _<_, min, max};
 ghost use Rattle.measures.specs.Limits.{highestPay, highestAggregate};
+ghost use Rattle.measures.specs.Rounding.{upward};
 ghost use Rattle.measures.specs.Answers.{answerRefusal, answerAmount, numberUnless};
 ghost use Rattle.benefits.specs.Limits.{highestRevaluation, highestAllowance, mostDays, highestChargeFactor, highestEarlyFactor, highestPot, highestAmount};
-ghost use Rattle.benefits.specs.Steps.{revalued, accrued, afterYear, bestPay, sectionPension, lumpSum, reduced, pensionDebit, lumpDebit, payIn, controlled, raised, allowanceIn, allowedFrom, allowedIn, excess, chargeFrom, charge, abatement, paysWithin, termsWithin, finalPayRefusal, abatementRefusal, chargeAnswer, abatementAnswer};
+ghost use Rattle.benefits.specs.Steps.{revalued, revaluedWay, accrued, accruedWay, afterYear, afterYearUps, bestPay, sectionPension, sectionPensionWay, lumpSum, reduced, reducedWay, pensionDebit, pensionDebitWay, lumpDebit, ofYear, payIn, controlled, raised, raisedWay, allowanceIn, allowedFrom, allowedFromWay, allowed3, allowed3Way, allowed2, allowed2Way, allowed1, allowed1Way, allowedIn, allowedUps, excess, chargeFrom, chargeFromUps, charge, chargeUps, abatement, paysWithin, termsWithin, finalPayRefusal, abatementRefusal, chargeAnswer, abatementAnswer};
 ghost use Rattle.benefits.specs.Bounds.{FinalPayBounds};
 
 // The highest revaluation of a year, in ten-thousandths.
@@ -60,6 +67,13 @@ pub struct BestPay {
     pub year: u64,
 }
 
+// The allowed pays of years 3, 2 and 1, each with the way that it was rounded.
+pub struct AllowedPays {
+    pub year3: Stepped,
+    pub year2: Stepped,
+    pub year1: Stepped,
+}
+
 // The higher of two amounts.
 fn higher(one: Pence, other: Pence) -> Pence
     ensures { λ r. ⌜ r .0 ≡ max (one .0) (other .0) ⌝ }
@@ -91,28 +105,32 @@ pub fn less(one: Pence, other: Pence) -> Pence
 }
 
 // The pension revalued by ten-thousandths.
-pub fn revalued(pension: Pence, revaluation: u64) -> Pence
+pub fn revalued(pension: Pence, revaluation: u64) -> Stepped
     requires { ⌜ (pension .0 ≤ 2 ^ 50) × (revaluation ≤ highestRevaluation) ⌝ }
-    ensures { λ r. ⌜ r .0 ≡ revalued (pension .0) revaluation ⌝ }
+    ensures { λ r. ⌜ (r .amount .0 ≡ revalued (pension .0) revaluation) × (r .way ≡ revaluedWay (pension .0) revaluation) ⌝ }
 {
-    Pence(scaled(pension.0, 10000 + revaluation, 10000))
+    in_pence(scaled(pension.0, 10000 + revaluation, 10000))
 }
 
 // The pension that a year's aggregate earns.
-pub fn accrued(aggregate: Pence) -> Pence
-    ensures { λ r. ⌜ r .0 ≡ accrued (aggregate .0) ⌝ }
+pub fn accrued(aggregate: Pence) -> Stepped
+    ensures { λ r. ⌜ (r .amount .0 ≡ accrued (aggregate .0)) × (r .way ≡ accruedWay (aggregate .0)) ⌝ }
 {
-    Pence(rounded(aggregate.0, 54))
+    in_pence(rounded(aggregate.0, 54))
 }
 
-// The pension after one more year.
-pub fn after_year(pension: Pence, revaluation: u64, aggregate: Pence) -> Pence
+// The pension after one more year, and how many of its two roundings went up.
+pub fn after_year(pension: Pence, revaluation: u64, aggregate: Pence) -> Counted
     requires { ⌜ (pension .0 ≤ 2 ^ 50) × (revaluation ≤ highestRevaluation) × (aggregate .0 ≤ highestAggregate) ⌝ }
-    ensures { λ r. ⌜ r .0 ≡ afterYear (pension .0) revaluation (aggregate .0) ⌝ }
+    ensures { λ r. ⌜ (r .amount .0 ≡ afterYear (pension .0) revaluation (aggregate .0)) × (r .ups ≡ afterYearUps (pension .0) revaluation (aggregate .0)) ⌝ }
 {
     let old = revalued(pension, revaluation);
     let new = accrued(aggregate);
-    Pence(old.0 + new.0)
+    let amount = Pence(old.amount.0 + new.amount.0);
+    let old_way = old.way;
+    let new_way = new.way;
+    let ups = upward_of_two(old_way, new_way);
+    Counted { amount, ups }
 }
 
 // The highest pay of years 3 to 1 and its year; of equals the later.
@@ -142,11 +160,11 @@ pub fn final_pay(f: FinalPay) -> BestPay
 }
 
 // The 1995 pension of a final pay.
-pub fn section_pension(pay: Pence, days: u64) -> Pence
+pub fn section_pension(pay: Pence, days: u64) -> Stepped
     requires { ⌜ (pay .0 ≤ highestAmount) × (days ≤ mostDays) ⌝ }
-    ensures { λ r. ⌜ r .0 ≡ sectionPension (pay .0) days ⌝ }
+    ensures { λ r. ⌜ (r .amount .0 ≡ sectionPension (pay .0) days) × (r .way ≡ sectionPensionWay (pay .0) days) ⌝ }
 {
-    Pence(scaled(pay.0, days, FULL_SERVICE))
+    in_pence(scaled(pay.0, days, FULL_SERVICE))
 }
 
 // The lump sum that goes with a 1995 pension.
@@ -158,19 +176,19 @@ pub fn lump_sum(pension: Pence) -> Pence
 }
 
 // An amount reduced for early payment by a factor in thousandths.
-pub fn reduced(amount: Pence, factor: u64) -> Pence
+pub fn reduced(amount: Pence, factor: u64) -> Stepped
     requires { ⌜ (amount .0 ≤ 2 ^ 50) × (factor ≤ highestEarlyFactor) ⌝ }
-    ensures { λ r. ⌜ r .0 ≡ reduced (amount .0) factor ⌝ }
+    ensures { λ r. ⌜ (r .amount .0 ≡ reduced (amount .0) factor) × (r .way ≡ reducedWay (amount .0) factor) ⌝ }
 {
-    Pence(scaled(amount.0, factor, 1000))
+    in_pence(scaled(amount.0, factor, 1000))
 }
 
 // The debit on a pension for a pot, by a factor in hundredths.
-pub fn pension_debit(pot: Pence, factor: u64) -> Pence
+pub fn pension_debit(pot: Pence, factor: u64) -> Stepped
     requires { ⌜ (pot .0 ≤ highestPot) × (0 < factor) ⌝ }
-    ensures { λ r. ⌜ r .0 ≡ pensionDebit (pot .0) factor ⌝ }
+    ensures { λ r. ⌜ (r .amount .0 ≡ pensionDebit (pot .0) factor) × (r .way ≡ pensionDebitWay (pot .0) factor) ⌝ }
 {
-    Pence(scaled(pot.0, 100, factor))
+    in_pence(scaled(pot.0, 100, factor))
 }
 
 // The debit on the lump sum that goes with a debit on a 1995 pension.
@@ -195,11 +213,11 @@ pub fn controlled(controls: u64, year: u64) -> bool
 }
 
 // A pay raised by an allowance in thousandths.
-pub fn raised(pay: Pence, allowance: u64) -> Pence
+pub fn raised(pay: Pence, allowance: u64) -> Stepped
     requires { ⌜ (pay .0 ≤ highestAmount) × (allowance ≤ highestAllowance) ⌝ }
-    ensures { λ r. ⌜ r .0 ≡ raised (pay .0) allowance ⌝ }
+    ensures { λ r. ⌜ (r .amount .0 ≡ raised (pay .0) allowance) × (r .way ≡ raisedWay (pay .0) allowance) ⌝ }
 {
-    Pence(scaled(pay.0, 1000 + allowance, 1000))
+    in_pence(scaled(pay.0, 1000 + allowance, 1000))
 }
 
 // The pay of year 3, 2 or 1.
@@ -228,62 +246,103 @@ fn allowance_in(f: FinalPay, year: u64) -> u64
     f.allowance1
 }
 
-// The allowed pay of a year: a base raised by its allowance where it is controlled, else its pay.
-fn allowed_from(f: FinalPay, year: u64, base: Pence) -> Pence
+// The allowed pay of a year: a base raised by its allowance where it is controlled, else its pay, which rounds nothing.
+fn allowed_from(f: FinalPay, year: u64, base: Pence) -> Stepped
     requires { ⌜ FinalPayBounds f × (base .0 ≤ highestPay) ⌝ }
-    ensures { λ r. ⌜ r .0 ≡ allowedFrom f year (base .0) ⌝ }
+    ensures { λ r. ⌜ (r .amount .0 ≡ allowedFrom f year (base .0)) × (r .way ≡ allowedFromWay f year (base .0)) ⌝ }
 {
     if controlled(f.controls, year) {
         return raised(base, allowance_in(f, year));
     }
-    pay_in(f, year)
+    Stepped {
+        amount: pay_in(f, year),
+        way: Way::Exact,
+    }
 }
 
-// The allowed pay of year 3, 2 or 1. From year 2 on it builds on the lower of pay and allowed pay of the year before.
-pub fn allowed_in(f: FinalPay, year: u64) -> Pence
+// The allowed pays. From year 2 on each builds on the lower of pay and allowed pay of the year before.
+pub fn allowed_pays(f: FinalPay) -> AllowedPays
     requires { ⌜ FinalPayBounds f ⌝ }
-    ensures { λ r. ⌜ r .0 ≡ allowedIn f year ⌝ }
+    ensures amounts { λ r. ⌜ (r .year3 .amount .0 ≡ allowed3 f) × (r .year2 .amount .0 ≡ allowed2 f) × (r .year1 .amount .0 ≡ allowed1 f) ⌝ }
+    ensures ways { λ r. ⌜ (r .year3 .way ≡ allowed3Way f) × (r .year2 .way ≡ allowed2Way f) × (r .year1 .way ≡ allowed1Way f) ⌝ }
 {
     let pay4 = f.pay4;
     let pay3 = f.pay3;
     let pay2 = f.pay2;
-    let allowed3 = allowed_from(f, 3, pay4);
-    if year == 3 {
-        return allowed3;
+    let year3 = allowed_from(f, 3, pay4);
+    let year2 = allowed_from(f, 2, lower(pay3, year3.amount));
+    let year1 = allowed_from(f, 1, lower(pay2, year2.amount));
+    AllowedPays {
+        year3,
+        year2,
+        year1,
     }
-    let allowed2 = allowed_from(f, 2, lower(pay3, allowed3));
-    if year == 2 {
-        return allowed2;
-    }
-    allowed_from(f, 1, lower(pay2, allowed2))
 }
 
-// Final pay less the allowed pay of its year.
-pub fn excess(f: FinalPay) -> Pence
-    requires { ⌜ FinalPayBounds f ⌝ }
-    ensures { λ r. ⌜ r .0 ≡ excess f ⌝ }
+// The allowed pay of year 3, 2 or 1.
+fn allowed_in(allowed: AllowedPays, year: u64) -> Pence
+    ensures { λ r. ⌜ r .0 ≡ ofYear year (allowed .year3 .amount .0) (allowed .year2 .amount .0) (allowed .year1 .amount .0) ⌝ }
 {
+    if year == 3 {
+        return allowed.year3.amount;
+    }
+    if year == 2 {
+        return allowed.year2.amount;
+    }
+    allowed.year1.amount
+}
+
+// How many of the three allowed pays went up.
+fn allowed_ups(allowed: AllowedPays) -> u64
+    ensures { λ r. ⌜ r ≡ upward (allowed .year3 .way) + upward (allowed .year2 .way) + upward (allowed .year1 .way) ⌝ }
+{
+    let year3 = allowed.year3;
+    let year2 = allowed.year2;
+    let year1 = allowed.year1;
+    let way3 = year3.way;
+    let way2 = year2.way;
+    let way1 = year1.way;
+    upward_of_two(way3, way2) + upward(way1)
+}
+
+// Final pay less the allowed pay of its year, and how many of the three allowed pays went up.
+pub fn excess(f: FinalPay) -> Counted
+    requires { ⌜ FinalPayBounds f ⌝ }
+    ensures { λ r. ⌜ (r .amount .0 ≡ excess f) × (r .ups ≡ allowedUps f) ⌝ }
+{
+    let allowed = allowed_pays(f);
     let best = final_pay(f);
     let pay = best.pay;
-    less(pay, allowed_in(f, best.year))
+    let amount = less(pay, allowed_in(allowed, best.year));
+    let ups = allowed_ups(allowed);
+    Counted { amount, ups }
 }
 
-// The employer's charge for an excess, by service days and a factor in hundredths.
-pub fn charge_from(excess: Pence, days: u64, factor: u64) -> Pence
+// The employer's charge for an excess, by service days and a factor in hundredths, and how many of its two roundings went up.
+pub fn charge_from(excess: Pence, days: u64, factor: u64) -> Counted
     requires { ⌜ (excess .0 ≤ highestAmount) × (days ≤ mostDays) × (factor ≤ highestChargeFactor) ⌝ }
-    ensures { λ r. ⌜ r .0 ≡ chargeFrom (excess .0) days factor ⌝ }
+    ensures { λ r. ⌜ (r .amount .0 ≡ chargeFrom (excess .0) days factor) × (r .ups ≡ chargeFromUps (excess .0) days factor) ⌝ }
 {
     let pension = section_pension(excess, days);
-    let lump = lump_sum(pension);
-    Pence(scaled(pension.0, factor, 100) + lump.0)
+    let lump = lump_sum(pension.amount);
+    let product = scaled(pension.amount.0, factor, 100);
+    let amount = Pence(product.number + lump.0);
+    let pension_way = pension.way;
+    let product_way = product.way;
+    let ups = upward_of_two(pension_way, product_way);
+    Counted { amount, ups }
 }
 
-// The employer's final pay charge.
-pub fn charge(f: FinalPay) -> Pence
+// The employer's final pay charge, and how many of the roundings on the way to it went up.
+pub fn charge(f: FinalPay) -> Counted
     requires { ⌜ FinalPayBounds f ⌝ }
-    ensures { λ r. ⌜ r .0 ≡ charge f ⌝ }
+    ensures { λ r. ⌜ (r .amount .0 ≡ charge f) × (r .ups ≡ chargeUps f) ⌝ }
 {
-    charge_from(excess(f), f.days, f.factor)
+    let over = excess(f);
+    let due = charge_from(over.amount, f.days, f.factor);
+    let amount = due.amount;
+    let ups = over.ups + due.ups;
+    Counted { amount, ups }
 }
 
 // The reduction of a pension for new pay.
@@ -392,7 +451,9 @@ pub fn charge_call(f: FinalPay) -> Answer
     if refusal != 0 {
         return Answer::Refused(refusal);
     }
-    Answer::Amount(charge(f))
+    let due = charge(f);
+    let amount = due.amount;
+    Answer::Amount(amount)
 }
 
 // Abatement apart from a case.

@@ -2,31 +2,52 @@
 use Prim.Native.Nat.{ℕ, _+_, _*_, _-_}
 use mathlib.Core.Bool.{Bool, _&&_, cond}
 use lib.Dec.{leb, eqb}
-use Rattle.measures.specs.Rounding.{rounded}
+use Rattle.measures.specs.Rounding.{rounded, way, upward}
 use Rattle.measures.specs.Limits.{highestPay}
 use Rattle.measures.specs.Refusals.{unless, firstRefusal}
 use Rattle.measures.specs.Answers.{answerOfTwo}
 use Rattle.measures.specs.declared.AnswerOfTwo.{AnswerOfTwo}
+use Rattle.measures.specs.declared.Way.{Way}
 use Rattle.benefits.specs.declared.FinalPay.{FinalPay}
 use Rattle.benefits.specs.Limits.{highestAllowance}
-use Rattle.benefits.specs.Steps.{finalYear, controlled, raised, allowed2, chargeFrom, finalPayRefusal}
+use Rattle.benefits.specs.Steps.{finalYear, controlled, raised, raisedWay, allowed3Way, allowed2, allowed2Way, chargeFrom, chargeFromUps, finalPayRefusal}
 use Rattle.bills.specs.declared.Change.{Change}
 
 -- "Pay with each employer in year 2 is annualised as rounded(pay × 365/days)."
 unfoldable pub annualised : ℕ → ℕ → ℕ
 annualised pay days = rounded (pay * 365) days
 
+-- which way it went
+unfoldable pub annualisedWay : ℕ → ℕ → Way
+annualisedWay pay days = way (pay * 365) days
+
 -- "The old employer's excess is annualised pay above allowed year 2, raised by the final year's price increase in thousandths, rounded."
 unfoldable pub oldExcess : FinalPay → Change → ℕ
 oldExcess f c = raised (annualised (c .«old_pay» .0) (c .«old_days») - allowed2 f) (c .«price_increase»)
+
+-- how many roundings on the way to it went up
+unfoldable pub oldExcessUps : FinalPay → Change → ℕ
+oldExcessUps f c =
+    upward (annualisedWay (c .«old_pay» .0) (c .«old_days»)) + upward (allowed3Way f) + upward (allowed2Way f)
+    + upward (raisedWay (annualised (c .«old_pay» .0) (c .«old_days») - allowed2 f) (c .«price_increase»))
 
 -- "The new employer's excess is year 1 pay above its own annualised pay with that year's allowance."
 unfoldable pub newExcess : FinalPay → Change → ℕ
 newExcess f c = f .pay1 .0 - raised (annualised (c .«new_pay» .0) (c .«new_days»)) (f .allowance1)
 
+-- how many roundings on the way to it went up
+unfoldable pub newExcessUps : FinalPay → Change → ℕ
+newExcessUps f c =
+    upward (annualisedWay (c .«new_pay» .0) (c .«new_days»))
+    + upward (raisedWay (annualised (c .«new_pay» .0) (c .«new_days»)) (f .allowance1))
+
 -- "Each excess becomes a charge by document 01's step; it is 0 where its year's control bit is 0."
 unfoldable pub chargeIn : FinalPay → ℕ → ℕ → ℕ
 chargeIn f year over = cond (controlled (f .controls) year) (chargeFrom over (f .days) (f .factor)) 0
+
+-- how many of its roundings went up
+unfoldable pub chargeInUps : FinalPay → ℕ → ℕ → ℕ
+chargeInUps f year over = cond (controlled (f .controls) year) (chargeFromUps over (f .days) (f .factor)) 0
 
 -- the old employer's charge: its excess is that of year 2
 unfoldable pub oldCharge : FinalPay → Change → ℕ

@@ -2,7 +2,7 @@
 use super::Change;
 use benefits::FinalPay;
 use benefits::HIGHEST_ALLOWANCE;
-use benefits::allowed_in;
+use benefits::allowed_pays;
 use benefits::charge_from;
 use benefits::controlled;
 use benefits::final_pay;
@@ -10,17 +10,21 @@ use benefits::final_pay_refusal;
 use benefits::less;
 use benefits::raised;
 use measures::AnswerOfTwo;
+use measures::Counted;
 use measures::HIGHEST_PAY;
 use measures::Pence;
+use measures::Stepped;
 use measures::TwoAmounts;
+use measures::in_pence;
 use measures::scaled;
+use measures::upward_of_two;
 ghost use mathlib.Core.Path.{_≡_};
 ghost use Prim.Native.Nat.{_≤_, _<_};
 ghost use Rattle.measures.specs.Limits.{highestPay};
 ghost use Rattle.measures.specs.Answers.{refusalOfTwo, oneAmount, otherAmount, numberUnless};
 ghost use Rattle.benefits.specs.Limits.{highestAmount};
 ghost use Rattle.benefits.specs.Bounds.{FinalPayBounds};
-ghost use Rattle.bills.specs.Employers.{annualised, oldExcess, newExcess, chargeIn, oldCharge, newCharge, partsWithin, daysWithin, changeRefusal, changeAnswer};
+ghost use Rattle.bills.specs.Employers.{annualised, annualisedWay, oldExcess, oldExcessUps, newExcess, newExcessUps, chargeIn, chargeInUps, oldCharge, newCharge, partsWithin, daysWithin, changeRefusal, changeAnswer};
 ghost use Rattle.bills.specs.Bounds.{ChangeBounds};
 
 // The days of the year for which pay is annualised, a leap year too.
@@ -30,41 +34,61 @@ const DAYS_OF_YEAR: u64 = 365;
 const MOST_DAYS_OF_BOTH: u64 = 366;
 
 // The pay of so many days as that of a year.
-fn annualised(pay: Pence, days: u64) -> Pence
+fn annualised(pay: Pence, days: u64) -> Stepped
     requires { ⌜ (pay .0 ≤ highestPay) × (0 < days) ⌝ }
-    ensures pay { λ r. ⌜ r .0 ≡ annualised (pay .0) days ⌝ }
-    ensures most { λ r. ⌜ r .0 ≤ 365000000000 ⌝ }
+    ensures pay { λ r. ⌜ (r .amount .0 ≡ annualised (pay .0) days) × (r .way ≡ annualisedWay (pay .0) days) ⌝ }
+    ensures most { λ r. ⌜ r .amount .0 ≤ 365000000000 ⌝ }
 {
-    Pence(scaled(pay.0, DAYS_OF_YEAR, days))
+    in_pence(scaled(pay.0, DAYS_OF_YEAR, days))
 }
 
 // The old employer's excess: its annualised pay above allowed year 2, with the price increase.
-fn old_excess(f: FinalPay, c: Change) -> Pence
+// With it, how many of the roundings on the way went up.
+fn old_excess(f: FinalPay, c: Change) -> Counted
     requires { ⌜ ChangeBounds f c ⌝ }
-    ensures { λ r. ⌜ r .0 ≡ oldExcess f c ⌝ }
+    ensures { λ r. ⌜ (r .amount .0 ≡ oldExcess f c) × (r .ups ≡ oldExcessUps f c) ⌝ }
 {
     let pay = annualised(c.old_pay, c.old_days);
-    raised(less(pay, allowed_in(f, 2)), c.price_increase)
+    let allowed = allowed_pays(f);
+    let year3 = allowed.year3;
+    let year2 = allowed.year2;
+    let over = raised(less(pay.amount, year2.amount), c.price_increase);
+    let amount = over.amount;
+    let pay_way = pay.way;
+    let way3 = year3.way;
+    let way2 = year2.way;
+    let over_way = over.way;
+    let ups = upward_of_two(pay_way, way3) + upward_of_two(way2, over_way);
+    Counted { amount, ups }
 }
 
 // The new employer's excess: year 1 pay above its annualised pay with the allowance of year 1.
-fn new_excess(f: FinalPay, c: Change) -> Pence
+// With it, how many of the roundings on the way went up.
+fn new_excess(f: FinalPay, c: Change) -> Counted
     requires { ⌜ ChangeBounds f c ⌝ }
-    ensures { λ r. ⌜ r .0 ≡ newExcess f c ⌝ }
+    ensures { λ r. ⌜ (r .amount .0 ≡ newExcess f c) × (r .ups ≡ newExcessUps f c) ⌝ }
 {
     let pay = annualised(c.new_pay, c.new_days);
-    less(f.pay1, raised(pay, f.allowance1))
+    let allowed = raised(pay.amount, f.allowance1);
+    let amount = less(f.pay1, allowed.amount);
+    let pay_way = pay.way;
+    let allowed_way = allowed.way;
+    let ups = upward_of_two(pay_way, allowed_way);
+    Counted { amount, ups }
 }
 
-// The charge for the excess of a year, 0 where the year is not controlled.
-fn charge_in(f: FinalPay, year: u64, excess: Pence) -> Pence
+// The charge for the excess of a year, 0 where the year is not controlled, and how many of its roundings went up.
+fn charge_in(f: FinalPay, year: u64, excess: Pence) -> Counted
     requires { ⌜ FinalPayBounds f × (excess .0 ≤ highestAmount) ⌝ }
-    ensures { λ r. ⌜ r .0 ≡ chargeIn f year (excess .0) ⌝ }
+    ensures { λ r. ⌜ (r .amount .0 ≡ chargeIn f year (excess .0)) × (r .ups ≡ chargeInUps f year (excess .0)) ⌝ }
 {
     if controlled(f.controls, year) {
         return charge_from(excess, f.days, f.factor);
     }
-    Pence(0)
+    Counted {
+        amount: Pence(0),
+        ups: 0,
+    }
 }
 
 // Whether neither part pay is too high, nor the price increase.
@@ -136,7 +160,9 @@ pub fn change_call(f: FinalPay, c: Change) -> AnswerOfTwo
     if refusal != 0 {
         return AnswerOfTwo::Refused(refusal);
     }
-    let one = charge_in(f, 2, old_excess(f, c));
-    let other = charge_in(f, 1, new_excess(f, c));
+    let old = old_excess(f, c);
+    let new = new_excess(f, c);
+    let one = charge_in(f, 2, old.amount).amount;
+    let other = charge_in(f, 1, new.amount).amount;
     AnswerOfTwo::Amounts(TwoAmounts { one, other })
 }

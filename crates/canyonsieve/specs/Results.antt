@@ -43,7 +43,7 @@ pub record BothCharges (f : FinalPay) (c : Change) (r : ChargeFigures) : Type 0 
   pub oldEmployer : r .«old_charge» ≡ numberUnless (changeRefusal f c) (oldCharge f c)
   pub newEmployer : r .«new_charge» ≡ numberUnless (changeRefusal f c) (newCharge f c)
 
--- every field of what C gets for a case: the refusal with its line, and the amounts, noughts when refused
+-- every field of what C gets for a case: the refusal with its line, and the amounts with the count of upward roundings, noughts when refused
 pub record Flat (o : Outcome) (r : CaseFigures) : Type 0 where
   pub refusal : r .refusal ≡ numberOf o
   pub line : r .line ≡ lineOf o
@@ -51,3 +51,4 @@ pub record Flat (o : Outcome) (r : CaseFigures) : Type 0 where
   pub net1995 : r .«net_1995» ≡ amountsGiven o .«net_1995» .0
   pub netLumpSum : r .«net_lump_sum» ≡ amountsGiven o .«net_lump_sum» .0
   pub charge : r .charge ≡ amountsGiven o .charge .0
+  pub roundedUp : r .«rounded_up» ≡ amountsGiven o .ups

@@ -49,7 +49,7 @@ pub struct ChargeFigures {
     pub new_charge: u64,
 }
 
-// A refusal with its line, 0 for none, and the amounts in pence, all 0 when refused.
+// A refusal with its line, 0 for none, and the amounts in pence with the count of upward roundings, all 0 when refused.
 #[repr(C)]
 pub struct CaseFigures {
     pub refusal: u64,
@@ -58,6 +58,7 @@ pub struct CaseFigures {
     pub net_1995: u64,
     pub net_lump_sum: u64,
     pub charge: u64,
+    pub rounded_up: u64,
 }
 
 // The refusal and the number of an answer.
@@ -180,6 +181,7 @@ fn case_figures(outcome: Outcome) -> CaseFigures
             net_1995: a.net_1995.0,
             net_lump_sum: a.net_lump_sum.0,
             charge: a.charge.0,
+            rounded_up: a.ups,
         },
         Outcome::Refused(r) => CaseFigures {
             refusal: r.number,
@@ -188,6 +190,7 @@ fn case_figures(outcome: Outcome) -> CaseFigures
             net_1995: 0,
             net_lump_sum: 0,
             charge: 0,
+            rounded_up: 0,
         },
     }
 }

@@ -1,5 +1,5 @@
 -- What the methods of the running case promise, from the equations of the code with the state; demand 3 for the running case.
-use Prim.Native.Nat.{ℕ}
+use Prim.Native.Nat.{ℕ, _≤_}
 use mathlib.Core.Bool.{Bool, true, false, cond}
 use mathlib.Core.Path.{_≡_, refl, sym, _∙_, ap, subst}
 use mathlib.Core.List.{List, [], _∷_, _++_}
@@ -18,6 +18,7 @@ use Rattle.rules.specs.Rules.{WorkedYear, Kept, nothing, begun, decodedAll, kep
 use Rattle.rules.specs.Working.{answerOf}
 use Rattle.rules.specs.Rivals.{Largest}
 use Rattle.rules.proofs.Largest.{WorkedPosts, largest-kept}
+use Rattle.rules.proofs.Counted.{mostUps, worked-ups}
 use Rattle.years.proofs.Years.{GoodYear}
 use Rattle.cases.specs.declared.Case.{Case}
 use Rattle.cases.specs.declared.Taken.{Taken}
@@ -49,6 +50,17 @@ largest-running raws a e = largest-decoded (decodedAll raws) a e
 
 pub answer-running : (ds : List Decoded) → outcomeOf (afterAll ds) ≡ answerOf (kept ds)
 answer-running ds = closing-agrees (afterAll ds) (kept ds) (represents ds)
+
+-- ---- the count of upward roundings
+
+count-of : (k : Kept) (c : Case) (a : Amounts) → Represents c k → answerOf k ≡ Outcome.Worked a → a .ups ≤ mostUps
+unfolding answerOf
+count-of nothing c a h e = clash (cc)
+count-of (begun k) c a h e = worked-ups k a (h .1 .years .few) e
+
+-- Over every list of frames, refused ones included: where the closing is not refused, the count is at most 161.
+pub count-running : (ds : List Decoded) (a : Amounts) → answerOf (kept ds) ≡ Outcome.Worked a → a .ups ≤ mostUps
+count-running ds a e = count-of (kept ds) (afterAll ds) a (represents ds) e
 
 -- ---- the methods
 

@@ -6,7 +6,7 @@ use lib.Dec.{leb, eqb}
 use Rattle.measures.specs.Refusals.{within, unless, firstRefusal}
 use Rattle.measures.specs.Tries.{tried, after}
 use Rattle.calendar.specs.declared.Date.{Date}
-use Rattle.benefits.specs.Steps.{charge}
+use Rattle.benefits.specs.Steps.{charge, chargeUps}
 use Rattle.frames.specs.declared.Member.{Member}
 use Rattle.frames.specs.declared.Frame.{Frame}
 use Rattle.frames.specs.declared.Decoded.{Decoded}
@@ -19,7 +19,7 @@ use Rattle.section.specs.declared.SectionState.{SectionState}
 use Rattle.section.specs.declared.SectionTaken.{SectionTaken}
 use Rattle.factors.specs.declared.FactorsState.{FactorsState}
 use Rattle.debits.specs.declared.DebitsState.{DebitsState}
-use Rattle.years.specs.Years.{noYears, yearFields, postFields, pensionNow, withYear, withPost, YearsBounds}
+use Rattle.years.specs.Years.{noYears, yearFields, postFields, pensionNow, upsNow, withYear, withPost, YearsBounds}
 use Rattle.section.specs.Section.{noSection, payFields, withPay, tenPaysFields, withTenPays, payHeld, earnedOf, SectionBounds}
 use Rattle.factors.specs.Factors.{noFactors, factorsFor, factorFields, withFactor, factorsHeld, reducedBy, DatedBounds}
 use Rattle.debits.specs.Debits.{noDebits, debitFields, withDebit, debitsOf, netOf, DebitsBounds}
@@ -148,13 +148,13 @@ openRefusal c =
 
 -- the amounts before the debits
 unfoldable pub grossOf : Case → SchemeAmounts
-grossOf c = reducedBy (c .factors) (earnedOf (c .section) (c .member .section) (pensionNow (c .years)))
+grossOf c = reducedBy (c .factors) (earnedOf (c .section) (c .member .section) (pensionNow (c .years)) (upsNow (c .years)))
 
 -- the refusal, or the nets
 unfoldable pub outcomeOf : Case → Outcome
 outcomeOf c =
     cond (eqb (openRefusal c) 0)
-    (netOf (grossOf c) (debitsOf (c .member .section) (c .debits)) (charge (c .section .pay)))
+    (netOf (grossOf c) (debitsOf (c .member .section) (c .debits)) (charge (c .section .pay)) (chargeUps (c .section .pay)))
     (Outcome.Refused (record { number = openRefusal c; line = 0 }))
 
 -- ---- how large the numbers of a case are: what the methods below the public ones ask

@@ -4,9 +4,10 @@ use mathlib.Core.Bool.{Bool, _&&_, cond}
 use lib.Dec.{leb, eqb}
 use Rattle.measures.specs.Refusals.{unless, firstRefusal}
 use Rattle.measures.specs.Tries.{tried}
-use Rattle.measures.specs.declared.Pence.{Pence}
+use Rattle.measures.specs.Rounding.{upward}
+use Rattle.measures.specs.declared.Counted.{Counted}
 use Rattle.benefits.specs.Limits.{highestPot}
-use Rattle.benefits.specs.Steps.{pensionDebit, lumpDebit}
+use Rattle.benefits.specs.Steps.{pensionDebit, pensionDebitWay, lumpDebit}
 use Rattle.frames.specs.declared.Debit.{Debit}
 use Rattle.frames.specs.Limits.{isSection, debitRefusal}
 use Rattle.rules.specs.declared.Outcome.{Outcome}
@@ -15,9 +16,13 @@ use Rattle.rules.specs.declared.SchemeAmounts.{SchemeAmounts}
 use Rattle.debits.specs.declared.DebitsState.{DebitsState}
 use Rattle.debits.specs.declared.DebitsTaken.{DebitsTaken}
 
+-- no debit
+abbrev pub noDebit : Counted
+noDebit = record { amount = record { 0 = 0 }; ups = 0 }
+
 -- no 06 yet
 abbrev pub noDebits : DebitsState
-noDebits = record { next = 0; pension2015 = record { 0 = 0 }; pension1995 = record { 0 = 0 } }
+noDebits = record { next = 0; pension2015 = noDebit; pension1995 = noDebit }
 
 -- ---- by an 06
 
@@ -26,8 +31,10 @@ unfoldable pub debitFields : ℕ → DebitsState → Debit → ℕ
 debitFields section s d = firstRefusal (debitRefusal d section) (unless (leb (s .next) (d .scheme)) 11)
 
 -- the debit where it is of that scheme, else the debit before
-unfoldable pub debitBy : Pence → ℕ → Debit → Pence
-debitBy before scheme d = cond (eqb (d .scheme) scheme) (record { 0 = pensionDebit (d .pot .0) (d .factor) }) before
+unfoldable pub debitBy : Counted → ℕ → Debit → Counted
+debitBy before scheme d =
+    cond (eqb (d .scheme) scheme)
+    (record { amount = record { 0 = pensionDebit (d .pot .0) (d .factor) }; ups = upward (pensionDebitWay (d .pot .0) (d .factor)) }) before
 
 -- the debit of its scheme; the next 06 is of a higher one
 unfoldable pub withDebit : DebitsState → Debit → DebitsState
@@ -39,7 +46,7 @@ debitTaken section s d = record { debits = tried (debitFields section) withDebit
 
 -- ---- closing
 
--- the debit of the section's pension, 0 without a section
+-- what there is of the section's debit, 0 without a section
 unfoldable pub pensionIf : ℕ → ℕ → ℕ
 pensionIf section debit = cond (isSection section) debit 0
 
@@ -51,9 +58,10 @@ lumpIf section debit = cond (eqb section 1) (lumpDebit debit) 0
 unfoldable pub debitsOf : ℕ → DebitsState → SchemeAmounts
 debitsOf section s =
     record {
-      pension2015 = s .pension2015;
-      pension1995 = record { 0 = pensionIf section (s .pension1995 .0) };
-      «lump_sum» = record { 0 = lumpIf section (pensionIf section (s .pension1995 .0)) };
+      pension2015 = s .pension2015 .amount;
+      pension1995 = record { 0 = pensionIf section (s .pension1995 .amount .0) };
+      «lump_sum» = record { 0 = lumpIf section (pensionIf section (s .pension1995 .amount .0)) };
+      ups = s .pension2015 .ups + pensionIf section (s .pension1995 .ups);
     }
 
 -- each debit is at most what it is taken from
@@ -61,21 +69,24 @@ abbrev pub covered : SchemeAmounts → SchemeAmounts → Bool
 covered g d =
     leb (d .pension2015 .0) (g .pension2015 .0) && leb (d .pension1995 .0) (g .pension1995 .0) && leb (d .«lump_sum» .0) (g .«lump_sum» .0)
 
--- each amount less its debit, or 14
-unfoldable pub netOf : SchemeAmounts → SchemeAmounts → ℕ → Outcome
-netOf g d charge =
+-- each amount less its debit, with the charge and all upward roundings, or 14
+unfoldable pub netOf : SchemeAmounts → SchemeAmounts → ℕ → ℕ → Outcome
+netOf g d charge chargeUps =
     workedUnless (unless (covered g d) 14)
     (record {
       «net_2015» = record { 0 = g .pension2015 .0 - d .pension2015 .0 };
       «net_1995» = record { 0 = g .pension1995 .0 - d .pension1995 .0 };
       «net_lump_sum» = record { 0 = g .«lump_sum» .0 - d .«lump_sum» .0 };
       charge = record { 0 = charge };
+      ups = g .ups + d .ups + chargeUps;
     })
 
 -- the highest debit: that of the highest pot, by a factor of a hundredth
 abbrev pub highestDebit : ℕ
 highestDebit = 100 * highestPot
 
--- how large the section's debit is
+-- how large the section's debit is, and how often each was rounded
 pub record DebitsBounds (s : DebitsState) : Type 0 where
-  pub pension1995 : s .pension1995 .0 ≤ highestDebit
+  pub pension1995 : s .pension1995 .amount .0 ≤ highestDebit
+  pub ups2015 : s .pension2015 .ups ≤ 1
+  pub ups1995 : s .pension1995 .ups ≤ 1

@@ -1,5 +1,5 @@
 -- Months early and factors: the laws of the code, and what is held of the 05s kept.
-use Prim.Native.Nat.{ℕ, zero, suc, _*_, _-_, _≤_}
+use Prim.Native.Nat.{ℕ, zero, suc, _+_, _*_, _-_, _≤_}
 use mathlib.Core.Path.{_≡_, refl, sym, _∙_, ap, subst}
 use mathlib.Core.Bool.{Bool, true, false, _&&_, _||_, not, cond}
 use mathlib.Core.List.{List, [], _∷_, _++_}
@@ -10,27 +10,30 @@ use lib.IntN.{ℤ, pos, negℤ}
 use borrow.Author.Tests.{lt-ltb}
 use Rattle.measures.specs.declared.Months.{Months}
 use Rattle.measures.specs.Lists.{All}
-use Rattle.measures.specs.Rounding.{rounded}
+use Rattle.measures.specs.Rounding.{rounded, way, upward}
+use Rattle.measures.specs.declared.Way.{Way}
+use Rattle.measures.proofs.Rounding.{upward-most}
 use Rattle.measures.specs.Refusals.{unless, firstRefusal}
 use Rattle.measures.proofs.Tests.{clash, tried-second}
 use Rattle.calendar.specs.declared.MonthsEarly.{MonthsEarly}
 use Rattle.calendar.specs.declared.Date.{Date}
 use Rattle.calendar.specs.Dates.{completedMonths, monthsEarly, monthsOf}
 use Rattle.calendar.proofs.CountedMonths.{completed, late-months}
-use Rattle.benefits.specs.Steps.{reduced}
+use Rattle.benefits.specs.Steps.{reduced, reducedWay}
 use Rattle.frames.specs.declared.Member.{Member}
 use Rattle.frames.specs.declared.Factor.{Factor}
 use Rattle.frames.specs.Limits.{sectionPensionAge, memberRefusal, isSection, factorRefusal}
 use Rattle.frames.proofs.Accepted.{member-good, factor-good}
 use Rattle.rules.specs.Rules.{given, lastOf, afterFactor}
-use Rattle.rules.specs.Working.{ifPositive, early, early2015, early1995, isFor, factorFor, pensionFactor, lumpFactor, factorThere, reducedIf}
+use Rattle.rules.specs.Working.{ifPositive, early, early2015, early1995, isFor, factorFor, pensionFactor, lumpFactor, factorThere, reducedIf, reducedIfWay}
 use Rattle.rules.proofs.Ends.{Ended, empty, ends, ended, last-end, factor-end, or-else}
+use Rattle.rules.specs.Amounts.{upsEarned, upsReduced}
 use Rattle.rules.specs.declared.SchemeAmounts.{SchemeAmounts}
 use Rattle.factors.specs.declared.PreviousFactor.{PreviousFactor}
 use Rattle.factors.specs.declared.FoundFactor.{FoundFactor}
 use Rattle.factors.specs.declared.Dated.{Dated}
 use Rattle.factors.specs.declared.FactorsState.{FactorsState}
-use Rattle.factors.specs.Factors.{noPrevious, noneFound, afterPrevious, factorFields, datedFor, factorsFor, foundBy, datedBy, withFactor, factorsHeld, reducedBy, FoundBounds, DatedBounds}
+use Rattle.factors.specs.Factors.{noPrevious, noneFound, afterPrevious, factorFields, datedFor, factorsFor, foundBy, datedBy, withFactor, factorsHeld, reductionsBy, reducedBy, FoundBounds, DatedBounds}
 
 -- ---- the code
 
@@ -46,6 +49,16 @@ module _ {given : MonthsEarly} {months : Months} {exact : ℤ} (is : monthsOf gi
   pub late-wanted : given ≡ MonthsEarly.Late months → 0 ≡ ifPositive exact
   unfolding monthsOf
   late-wanted e = rw (← is, e) (late-none (months .0))
+
+-- three reductions
+pub reduced-ups : (s : FactorsState) (a : SchemeAmounts) → a .ups ≤ upsEarned → reducedBy s a .ups ≤ upsReduced
+unfolding reducedBy reductionsBy
+reduced-ups s a few =
+    let d = s .dated in
+    let one = upward-most (reducedIfWay (d .early2015 .0) (d .factor2015 .pension) (a .pension2015 .0)) in
+    let two = upward-most (reducedIfWay (d .early1995 .0) (d .factor1995 .pension) (a .pension1995 .0)) in
+    let three = upward-most (reducedIfWay (d .early1995 .0) (d .factor1995 .lump) (a .«lump_sum» .0)) in
+    omega (arith, few, one, two, three)
 
 -- at age 0 nobody is early: without a section no months are wanted
 at-no-age : (birth retirement : Date) (n : ℕ) → pos n ≡ completedMonths birth retirement → 0 ≡ ifPositive (monthsEarly birth retirement 0)
@@ -181,20 +194,29 @@ module _ (s : FactorsState) (m : Member) (fs : List Factor) (h : HoldsFactors s 
     pension2015 = record { 0 = reducedIf (early2015 m) (pensionFactor (factorFor 0 (early2015 m) fs)) (a .pension2015 .0) };
     pension1995 = record { 0 = reducedIf (early1995 m) (pensionFactor (factorFor 1 (early1995 m) fs)) (a .pension1995 .0) };
     «lump_sum» = record { 0 = reducedIf (early1995 m) (lumpFactor (factorFor 1 (early1995 m) fs)) (a .«lump_sum» .0) };
+    ups =
+        a .ups
+        + (upward (reducedIfWay (early2015 m) (pensionFactor (factorFor 0 (early2015 m) fs)) (a .pension2015 .0))
+        + upward (reducedIfWay (early1995 m) (pensionFactor (factorFor 1 (early1995 m) fs)) (a .pension1995 .0))
+        + upward (reducedIfWay (early1995 m) (lumpFactor (factorFor 1 (early1995 m) fs)) (a .«lump_sum» .0)));
   }
-  unfolding reducedBy datedOf
+  unfolding reducedBy reductionsBy datedOf
   reduced-is a = rw (h .dated) (rw (pension-is, pension-is, lump-is) refl)
 
--- nothing is reduced of nothing
-nought-reduced : (months factor : ℕ) → reducedIf months factor 0 ≡ 0
-unfolding reducedIf reduced rounded
+-- nothing is reduced of nothing, and the rounding is exact
+nought-reduced : (months factor : ℕ) → (reducedIf months factor 0 ≡ 0) × (reducedIfWay months factor 0 ≡ Way.Exact)
+unfolding reducedIf reducedIfWay reduced reducedWay rounded way
 nought-reduced months factor = by (eqb months 0)
   where
-    by : (t : Bool) → cond t 0 (reduced 0 factor) ≡ 0
-    by true = refl
-    by false = let e : 0 * factor ≡ 0 = omega arith in rw e refl
+    by : (t : Bool) → (cond t 0 (reduced 0 factor) ≡ 0) × (cond t Way.Exact (reducedWay 0 factor) ≡ Way.Exact)
+    by true = (refl, refl)
+    by false = let e : 0 * factor ≡ 0 = omega arith in (rw e refl, rw e refl)
 
 -- an amount for section 1 alone is reduced there alone
 pub reduced-only : (t : Bool) (months factor amount : ℕ) → reducedIf months factor (cond t amount 0) ≡ cond t (reducedIf months factor amount) 0
 reduced-only true months factor amount = refl
-reduced-only false months factor amount = nought-reduced months factor
+reduced-only false months factor amount = nought-reduced months factor .0
+
+pub way-only : (t : Bool) (months factor amount : ℕ) → reducedIfWay months factor (cond t amount 0) ≡ cond t (reducedIfWay months factor amount) Way.Exact
+way-only true months factor amount = refl
+way-only false months factor amount = nought-reduced months factor .1

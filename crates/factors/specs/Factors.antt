@@ -1,14 +1,15 @@
 -- Months early and the factors found, as a case holds them: the refusal of an 05, what it makes of them, and the reduction.
-use Prim.Native.Nat.{ℕ, _≤_}
+use Prim.Native.Nat.{ℕ, _+_, _≤_}
 use mathlib.Core.Bool.{Bool, true, false, _&&_, _||_, not, cond}
 use lib.Dec.{ltb, eqb}
 use Rattle.measures.specs.Refusals.{unless, firstRefusal}
 use Rattle.measures.specs.Tries.{tried}
+use Rattle.measures.specs.Rounding.{upward}
 use Rattle.benefits.specs.Limits.{highestEarlyFactor}
 use Rattle.frames.specs.declared.Member.{Member}
 use Rattle.frames.specs.declared.Factor.{Factor}
 use Rattle.frames.specs.Limits.{isSection, factorRefusal}
-use Rattle.rules.specs.Working.{early2015, early1995, isFor, reducedIf}
+use Rattle.rules.specs.Working.{early2015, early1995, isFor, reducedIf, reducedIfWay}
 use Rattle.rules.specs.declared.SchemeAmounts.{SchemeAmounts}
 use Rattle.factors.specs.declared.PreviousFactor.{PreviousFactor}
 use Rattle.factors.specs.declared.FoundFactor.{FoundFactor}
@@ -87,6 +88,13 @@ factorsHeld section s =
     wantedFound (s .dated .early2015 .0) (s .dated .factor2015)
     && (not (isSection section) || wantedFound (s .dated .early1995 .0) (s .dated .factor1995))
 
+-- how many of the three reductions went up
+unfoldable pub reductionsBy : FactorsState → SchemeAmounts → ℕ
+reductionsBy s a =
+    upward (reducedIfWay (s .dated .early2015 .0) (s .dated .factor2015 .pension) (a .pension2015 .0))
+    + upward (reducedIfWay (s .dated .early1995 .0) (s .dated .factor1995 .pension) (a .pension1995 .0))
+    + upward (reducedIfWay (s .dated .early1995 .0) (s .dated .factor1995 .lump) (a .«lump_sum» .0))
+
 -- the amounts reduced, each by its own factor
 unfoldable pub reducedBy : FactorsState → SchemeAmounts → SchemeAmounts
 reducedBy s a =
@@ -94,6 +102,7 @@ reducedBy s a =
       pension2015 = record { 0 = reducedIf (s .dated .early2015 .0) (s .dated .factor2015 .pension) (a .pension2015 .0) };
       pension1995 = record { 0 = reducedIf (s .dated .early1995 .0) (s .dated .factor1995 .pension) (a .pension1995 .0) };
       «lump_sum» = record { 0 = reducedIf (s .dated .early1995 .0) (s .dated .factor1995 .lump) (a .«lump_sum» .0) };
+      ups = a .ups + reductionsBy s a;
     }
 
 -- how large the factors of an 05 are, in thousandths

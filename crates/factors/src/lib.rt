@@ -7,13 +7,17 @@ use frames::Member;
 use frames::factor_refusal;
 use measures::Months;
 use measures::Pence;
+use measures::Stepped;
+use measures::Way;
+use measures::upward;
+use measures::upward_of_two;
 use rules::SchemeAmounts;
 ghost use mathlib.Core.Path.{_≡_};
 ghost use Prim.Native.Nat.{_^_, _≤_};
 ghost use Rattle.benefits.specs.Limits.{highestEarlyFactor};
 ghost use Rattle.calendar.specs.Ranges.{Accepted};
 ghost use Rattle.frames.specs.Limits.{memberRefusal};
-ghost use Rattle.rules.specs.Working.{early, early1995, reducedIf};
+ghost use Rattle.rules.specs.Working.{early, early1995, reducedIf, reducedIfWay};
 ghost use Rattle.rules.specs.Amounts.{AmountsBounds};
 ghost use Rattle.factors.specs.Factors.{noneFound, noDated, noFactors, afterPrevious, factorFields, datedFor, factorsFor, foundBy, datedBy, factorTaken, wantedFound, factorsHeld, reducedBy, DatedBounds};
 
@@ -171,13 +175,16 @@ fn wanted_found(months: Months, factor: FoundFactor) -> bool
     factor.found
 }
 
-// An amount reduced by a factor where months early is positive.
-fn reduced_if(months: Months, factor: u64, amount: Pence) -> Pence
+// An amount reduced by a factor where months early is positive; otherwise nothing is rounded.
+fn reduced_if(months: Months, factor: u64, amount: Pence) -> Stepped
     requires { ⌜ (factor ≤ highestEarlyFactor) × (amount .0 ≤ 2 ^ 50) ⌝ }
-    ensures { λ r. ⌜ r .0 ≡ reducedIf (months .0) factor (amount .0) ⌝ }
+    ensures { λ r. ⌜ (r .amount .0 ≡ reducedIf (months .0) factor (amount .0)) × (r .way ≡ reducedIfWay (months .0) factor (amount .0)) ⌝ }
 {
     if months.0 == 0 {
-        return amount;
+        return Stepped {
+            amount,
+            way: Way::Exact,
+        };
     }
     reduced(amount, factor)
 }
@@ -268,13 +275,21 @@ impl FactorsState {
         let dated = self.dated;
         let of2015 = dated.factor2015;
         let of1995 = dated.factor1995;
-        let pension2015 = reduced_if(dated.early2015, of2015.pension, earned.pension2015);
-        let pension1995 = reduced_if(dated.early1995, of1995.pension, earned.pension1995);
-        let lump = reduced_if(dated.early1995, of1995.lump, earned.lump_sum);
+        let first = reduced_if(dated.early2015, of2015.pension, earned.pension2015);
+        let second = reduced_if(dated.early1995, of1995.pension, earned.pension1995);
+        let third = reduced_if(dated.early1995, of1995.lump, earned.lump_sum);
+        let pension2015 = first.amount;
+        let pension1995 = second.amount;
+        let lump = third.amount;
+        let way2015 = first.way;
+        let way1995 = second.way;
+        let lump_way = third.way;
+        let ups = upward_of_two(way2015, way1995) + upward(lump_way);
         SchemeAmounts {
             pension2015,
             pension1995,
             lump_sum: lump,
+            ups: earned.ups + ups,
         }
     }
 }

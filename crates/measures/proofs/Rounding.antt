@@ -1,9 +1,14 @@
 -- The laws of rounding, for any number and any divisor above 0.
-use mathlib.Core.Path.{_≡_, sym, _∙_, ap}
-use Prim.Native.Nat.{ℕ, _+_, _*_, _/_, _%_, _-_, _≤_, _<_}
-use native.Mathlib.Nat.{le-div-iff-mul-le, div-mul-le-self, mul-add-div-right, mul-div-mul-right, le-trans, le-of-eq, div-eq-of-lt, div-add-mod', mul-le-mul-left, mod-lt}
+use mathlib.Core.Path.{_≡_, refl, sym, _∙_, ap, ap₂}
+use mathlib.Core.Bool.{cond}
+use Prim.Native.Nat.{ℕ, zero, suc, _+_, _*_, _/_, _%_, _-_, _≤_, _<_}
+use native.Mathlib.Nat.{le-div-iff-mul-le, div-mul-le-self, mul-add-div-right, mul-div-mul-right, le-trans, le-of-eq, div-eq-of-lt, div-add-mod', mul-le-mul-left, mod-lt, le-antisymm, lt-of-mul-lt-mul-right, le-of-mul-le-mul-right, mul-lt-mul-of-pos-right}
 use native.Mathlib.Omega.{arith}
-use Rattle.measures.specs.Rounding.{rounded}
+use lib.Dec.{eqb, ltb}
+use borrow.Author.Tests.{eq-eqb, ne-eqb, lt-ltb, le-ltb}
+use Rattle.measures.specs.declared.Way.{Way}
+use Rattle.measures.specs.Rounding.{rounded, way, upward}
+use Rattle.measures.proofs.Tests.{eqb-iff, ltb-iff}
 
 div-mono : {m n : ℕ} (d : ℕ) → 0 < d → m ≤ n → m / d ≤ n / d
 div-mono {m} {n} d pd h = le-div-iff-mul-le pd .1 (le-trans (div-mul-le-self m d) h)
@@ -65,3 +70,81 @@ module _ (n d : ℕ) (pd : 0 < d) where
     where
       two : 2 ≤ d
       two = omega (arith, mod-lt n pd)
+
+-- ---- which way it went
+
+-- by the quotient and the rest, as code rounds
+module _ (n d : ℕ) (pd : 0 < d) where
+  pub rest-none : n % d ≡ 0 → n / d ≡ rounded n d
+  rest-none z = rest-down n d pd (omega arith)
+
+  pub way-exact : n % d ≡ 0 → Way.Exact ≡ way n d
+  unfolding way
+  way-exact z = rw (eq-eqb (rounded n d * d) n (ap (λ (q : ℕ). q * d) (sym (rest-none z)) ∙ omega (arith, div-add-mod' n d))) refl
+
+  pub way-down : (n % d ≡ 0 → ⊥) → n % d < d - n % d → Way.Down ≡ way n d
+  unfolding way
+  way-down f h = rw (ne-eqb (rounded n d * d) n (λ e. let z : ⊥ = omega (arith, below, e) in z), lt-ltb (rounded n d * d) n below) refl
+    where
+      above-none : (k : ℕ) → (k ≡ 0 → ⊥) → 0 < k
+      above-none zero f = absurd (f refl)
+      above-none (suc k) f = omega arith
+
+      below : rounded n d * d < n
+      below = omega (arith, ap (λ (q : ℕ). q * d) (rest-down n d pd h), div-add-mod' n d, above-none (n % d) f)
+
+  pub way-up : d - n % d ≤ n % d → Way.Up ≡ way n d
+  unfolding way
+  way-up h = rw (ne-eqb (rounded n d * d) n (λ e. let z : ⊥ = omega (arith, above, e) in z), le-ltb (rounded n d * d) n (omega (arith, above))) refl
+    where
+      above : n < rounded n d * d
+      above = omega (arith, ap (λ (q : ℕ). q * d) (rest-up n d pd h), div-add-mod' n d, mod-lt n pd)
+
+-- of 54ths, by computation: a half is up, less is down, a whole number is exact, nought too
+pub ways-shown : (way 27 54 ≡ Way.Up) × (way 26 54 ≡ Way.Down) × (way 54 54 ≡ Way.Exact) × (way 0 54 ≡ Way.Exact) × (way 81 54 ≡ Way.Up)
+unfolding way rounded
+ways-shown = (refl, refl, refl, refl, refl)
+
+-- a whole part changes nothing
+pub way-add : (a n d : ℕ) → 0 < d → way (a * d + n) d ≡ way n d
+unfolding way
+way-add a n d pd = rw (rounded-add a n d pd) (ap₂ (λ s t. cond s Way.Exact (cond t Way.Down Way.Up)) same less)
+  where
+    same : eqb ((a + rounded n d) * d) (a * d + n) ≡ eqb (rounded n d * d) n
+    same = eqb-iff ((a + rounded n d) * d) (a * d + n) (rounded n d * d) n (λ e. omega (arith, e)) (λ e. omega (arith, e))
+
+    less : ltb ((a + rounded n d) * d) (a * d + n) ≡ ltb (rounded n d * d) n
+    less = ltb-iff ((a + rounded n d) * d) (a * d + n) (rounded n d * d) n (λ e. omega (arith, e)) (λ e. omega (arith, e))
+
+-- a scale changes nothing
+pub way-scale : (n d k : ℕ) → 0 < k → way (n * k) (d * k) ≡ way n d
+unfolding way
+way-scale n d k pk = rw (rounded-scale n d k pk) (ap₂ (λ s t. cond s Way.Exact (cond t Way.Down Way.Up)) same less)
+  where
+    r : ℕ
+    r = rounded n d * d
+
+    order : rounded n d * (d * k) ≡ r * k
+    order = omega arith
+
+    same : eqb (rounded n d * (d * k)) (n * k) ≡ eqb r n
+    same =
+        rw order
+        (eqb-iff (r * k) (n * k) r n
+        (λ e. le-antisymm (le-of-mul-le-mul-right {k = k} (le-of-eq e) pk) (le-of-mul-le-mul-right {k = k} (le-of-eq (sym e)) pk))
+        (λ e. ap (λ (m : ℕ). m * k) e))
+
+    less : ltb (rounded n d * (d * k)) (n * k) ≡ ltb r n
+    less = rw order (ltb-iff (r * k) (n * k) r n (λ e. lt-of-mul-lt-mul-right k e) (λ e. mul-lt-mul-of-pos-right e pk))
+
+-- a whole number is exact
+pub way-whole : (a d : ℕ) → 0 < d → way (a * d) d ≡ Way.Exact
+unfolding way
+way-whole a d pd = rw (rounded-whole a d pd, eq-eqb (a * d) (a * d) refl) refl
+
+-- a rounding counts once at most
+pub upward-most : (went : Way) → upward went ≤ 1
+unfolding upward
+upward-most Way.Exact = omega arith
+upward-most Way.Down = omega arith
+upward-most Way.Up = omega arith

@@ -1,4 +1,4 @@
--- The aggregate pay of a year's posts: no allowed division of the parts has a larger one, and one rounded fraction is enough to compute it.
+-- The aggregate pay of a year's posts: no allowed division of the parts has a larger one, and one rounded fraction is enough to compute it and its way.
 use mathlib.Core.Path.{_≡_, refl, sym, _∙_, ap, ap₂, subst}
 use mathlib.Core.Bool.{Bool, true, false, cond}
 use mathlib.Core.List.{List, [], _∷_}
@@ -8,12 +8,13 @@ use native.Mathlib.Nat.{mul-le-mul-right, mul-comm, zero-mul, le-refl, le-of-eq,
 use native.Mathlib.Omega.{arith}
 use Rattle.measures.specs.Lists.{All}
 use Rattle.measures.proofs.Tests.{le-or-lt}
-use Rattle.measures.specs.Rounding.{rounded}
-use Rattle.measures.proofs.Rounding.{rounded-mono, rounded-add, rounded-scale, rounded-whole, rounded-zero, rounded-bound}
+use Rattle.measures.specs.declared.Way.{Way}
+use Rattle.measures.specs.Rounding.{rounded, way}
+use Rattle.measures.proofs.Rounding.{rounded-mono, rounded-add, rounded-scale, rounded-whole, rounded-zero, rounded-bound, way-add, way-scale, way-whole}
 use Rattle.posts.specs.declared.Post.{Post}
 use Rattle.posts.specs.Division.{Claim, IsRate, numerator, denominator, Within, nothing, more, AllowedParts, division}
-use Rattle.posts.specs.Paid.{paid}
-use Rattle.posts.specs.Posts.{h, p, HasMinutes, contractedMinutes, weightedParts, claims, aggregate, aggregatePay, wholeTime, anyWholeTime, wholeTimeParts, parts, Rival, RivalIf}
+use Rattle.posts.specs.Paid.{paid, eitherWay, paidWay}
+use Rattle.posts.specs.Posts.{h, p, HasMinutes, contractedMinutes, weightedParts, claim, claims, aggregate, aggregatePay, aggregateWay, wholeTime, anyWholeTime, wholeTimeParts, parts, Rival, RivalIf}
 use Rattle.posts.proofs.Filling.{Filled, done, over, under, level, seen}
 use Rattle.posts.proofs.Optimum.{optimal-division, division-allowed, shares-within}
 
@@ -25,47 +26,79 @@ denominator-pos : (xs : List Claim) → All IsRate xs → 0 < denominator xs
 denominator-pos [] w = omega arith
 denominator-pos (x ∷ xs) w = mul-pos (w .0) (denominator-pos xs (w .1))
 
--- ---- the closed form: each claim's worth for its parts rounded by itself. With the division's parts at most one of these is
--- no whole number before it is rounded.
+-- ---- a fraction's number and its way
 
--- a whole number m for the first claim
-module _ (H d a n m D N : ℕ) (pH : 0 < H) (pd : 0 < d) (pD : 0 < D) (e : a * n ≡ m * (d * H)) where
-  head-whole : rounded (a * n) (d * H) ≡ m
-  head-whole = ap (λ (k : ℕ). rounded k (d * H)) e ∙ rounded-whole m (d * H) (mul-pos pd pH)
+-- n/d is rounded to t, and goes the way v
+abbrev pub Rounds : ℕ → ℕ → ℕ → Way → Type 0
+Rounds n d t v = (rounded n d ≡ t) × (way n d ≡ v)
 
-  sum-whole : (t : ℕ) → N ≡ t * (D * H) → a * n * D + N * d ≡ (rounded (a * n) (d * H) + t) * (d * D * H)
-  sum-whole t f =
-      rw head-whole (omega (arith, ap (λ (k : ℕ). k * D) e, ap (λ (k : ℕ). k * d) f))
+pub rounds-whole : (n a d : ℕ) → 0 < d → n ≡ a * d → Rounds n d a Way.Exact
+rounds-whole n a d pd e = (ap (λ (k : ℕ). rounded k d) e ∙ rounded-whole a d pd, ap (λ (k : ℕ). way k d) e ∙ way-whole a d pd)
 
-  sum-rounded : (t : ℕ) → rounded N (D * H) ≡ t → rounded (a * n * D + N * d) (d * D * H) ≡ rounded (a * n) (d * H) + t
-  sum-rounded t f =
-      ap (λ (k : ℕ). rounded k (d * D * H)) same
-      ∙ rounded-add m (N * d) (d * D * H) (mul-pos (mul-pos pd pD) pH)
-      ∙ ap (λ (k : ℕ). m + rounded (N * d) k) order
-      ∙ ap₂ _+_ (sym head-whole) (rounded-scale N (D * H) d pd ∙ f)
-    where
-      same : a * n * D + N * d ≡ m * (d * D * H) + N * d
-      same = omega (arith, ap (λ (k : ℕ). k * D) e)
+-- a whole part taken out, the rest scaled
+rounds-rest : (a n d k t : ℕ) (v : Way) → 0 < d → 0 < k → Rounds n d t v → Rounds (a * (d * k) + n * k) (d * k) (a + t) v
+rounds-rest a n d k t v pd pk r = (
+  rounded-add a (n * k) (d * k) (mul-pos pd pk) ∙ ap (λ (u : ℕ). a + u) (rounded-scale n d k pk ∙ r .0),
+  way-add a (n * k) (d * k) (mul-pos pd pk) ∙ way-scale n d k pk ∙ r .1,
+)
 
-      order : d * D * H ≡ D * H * d
-      order = omega arith
+pub either-exact : (v : Way) → eitherWay v Way.Exact ≡ v
+unfolding eitherWay
+either-exact Way.Exact = refl
+either-exact Way.Down = refl
+either-exact Way.Up = refl
 
--- a fraction for the first claim, whole numbers for the others
-sum-fraction : (H d a n D N t : ℕ) → 0 < H → 0 < d → 0 < D → N ≡ t * (D * H) → rounded (a * n * D + N * d) (d * D * H) ≡ rounded (a * n) (d * H) + t
-sum-fraction H d a n D N t pH pd pD f =
-    ap (λ (k : ℕ). rounded k (d * D * H)) same
-    ∙ rounded-add t (a * n * D) (d * D * H) (mul-pos (mul-pos pd pD) pH)
-    ∙ ap (λ (k : ℕ). t + rounded (a * n * D) k) order
-    ∙ ap (λ (k : ℕ). t + k) (rounded-scale (a * n) (d * H) D pD)
-    ∙ omega arith
-  where
-    same : a * n * D + N * d ≡ t * (d * D * H) + a * n * D
-    same = omega (arith, ap (λ (k : ℕ). k * d) f)
+-- ---- the closed form: each claim's worth for its parts rounded by itself, where one of these at most is no whole number before
+-- it is rounded
 
-    order : d * D * H ≡ d * H * D
-    order = omega arith
+-- a claim's worth for its parts is a whole number
+abbrev Whole : ℕ → Claim → ℕ → Type 0
+Whole H x a = (m : ℕ) × (a * x .n ≡ m * (x .d * H))
 
--- a claim that is worth a whole number in full: h × H parts at the rate p/h, H parts to a minute
+abbrev Wholes : ℕ → List Claim → List ℕ → Type 0
+Wholes H [] cs = Unit {0}
+Wholes H (x ∷ xs) [] = Unit {0}
+Wholes H (x ∷ xs) (a ∷ cs) = Whole H x a × Wholes H xs cs
+
+-- for all claims but one at most
+data Lone (H : ℕ) : List Claim → List ℕ → Type 0 where
+  none : Lone H [] []
+  skip : {x : Claim} {xs : List Claim} {a : ℕ} {cs : List ℕ} → Whole H x a → Lone H xs cs → Lone H (x ∷ xs) (a ∷ cs)
+  this : {x : Claim} {xs : List Claim} {a : ℕ} {cs : List ℕ} → Wholes H xs cs → Lone H (x ∷ xs) (a ∷ cs)
+
+module _ (H : ℕ) (pH : 0 < H) where
+  head-whole : (x : Claim) (a : ℕ) → IsRate x → (k : Whole H x a) → Rounds (a * x .n) (x .d * H) (k .0) Way.Exact
+  head-whole x a pd k = rounds-whole (a * x .n) (k .0) (x .d * H) (mul-pos pd pH) (k .1)
+
+  wholes-sum : (xs : List Claim) (cs : List ℕ) → All IsRate xs → Wholes H xs cs → (numerator xs cs ≡ paid H xs cs * (denominator xs * H)) × (paidWay H xs cs ≡ Way.Exact)
+  unfolding paid paidWay eitherWay
+  wholes-sum [] cs r k = (omega arith, refl)
+  wholes-sum (x ∷ xs) [] r k = (omega arith, refl)
+  wholes-sum (x ∷ xs) (a ∷ cs) r k =
+      let head = head-whole x a (r .0) (k .0) in
+      let rest = wholes-sum xs cs (r .1) (k .1) in
+      (rw (head .0) (omega (arith, ap (λ (n : ℕ). n * denominator xs) (k .0 .1), ap (λ (n : ℕ). n * x .d) (rest .0))), ap₂ eitherWay (head .1) (rest .1))
+
+  lone-rounds : (xs : List Claim) (cs : List ℕ) → All IsRate xs → Lone H xs cs → Rounds (numerator xs cs) (denominator xs * H) (paid H xs cs) (paidWay H xs cs)
+  unfolding paid paidWay eitherWay
+  lone-rounds [] [] r none = rounds-whole 0 0 (1 * H) (omega arith) (omega arith)
+  lone-rounds (x ∷ xs) (a ∷ cs) r (skip k l) =
+      let head = head-whole x a (r .0) k in
+      let sum : a * x .n * denominator xs + numerator xs cs * x .d ≡ k .0 * (denominator xs * H * x .d) + numerator xs cs * x .d = omega (arith, ap (λ (n : ℕ). n * denominator xs) (k .1)) in
+      let order : x .d * denominator xs * H ≡ denominator xs * H * x .d = omega arith in
+      rw (sum, order, head .0, head .1)
+      (rounds-rest (k .0) _ (denominator xs * H) (x .d) _ _ (mul-pos (denominator-pos xs (r .1)) pH) (r .0) (lone-rounds xs cs (r .1) l))
+  lone-rounds (x ∷ xs) (a ∷ cs) r (this k) =
+      let rest = wholes-sum xs cs (r .1) k in
+      let sum : a * x .n * denominator xs + numerator xs cs * x .d ≡ paid H xs cs * (x .d * H * denominator xs) + a * x .n * denominator xs = omega (arith, ap (λ (n : ℕ). n * x .d) (rest .0)) in
+      let order : x .d * denominator xs * H ≡ x .d * H * denominator xs = omega arith in
+      let turned : rounded (a * x .n) (x .d * H) + paid H xs cs ≡ paid H xs cs + rounded (a * x .n) (x .d * H) = omega arith in
+      rw (sum, order, turned, rest .1, either-exact (way (a * x .n) (x .d * H)))
+      (rounds-rest (paid H xs cs) (a * x .n) (x .d * H) (denominator xs) _ _ (mul-pos (r .0) pH) (denominator-pos xs (r .1)) (refl, refl))
+
+-- ---- of a year's parts one at most is worth no whole number
+
+-- all the parts that a claim may have are h × H, at the rate p/h, H parts to a minute
 abbrev Minuted : ℕ → Claim → Type 0
 Minuted H x = x .most ≡ x .d * H
 
@@ -73,71 +106,64 @@ minuted : (H : ℕ) (xs : List Post) → All (Minuted H) (claims H xs)
 minuted H [] = tt
 minuted H (x ∷ xs) = (refl, minuted H xs)
 
-module _ (H K : ℕ) (c : Claim) (pH : 0 < H) where
-  full : (x : Claim) (a : ℕ) → x .most ≡ x .d * H → a ≡ x .most → a * x .n ≡ x .n * (x .d * H)
-  full x a m e = ap (λ (k : ℕ). k * x .n) (e ∙ m) ∙ omega arith
+full : (H : ℕ) (x : Claim) (a : ℕ) → Minuted H x → a ≡ x .most → Whole H x a
+full H x a m e = (x .n, ap (λ (k : ℕ). k * x .n) (e ∙ m) ∙ omega arith)
 
-  none : (x : Claim) (a : ℕ) → a ≡ 0 → a * x .n ≡ 0 * (x .d * H)
-  none x a e = ap (λ (k : ℕ). k * x .n) e ∙ omega arith
+nought : (H : ℕ) (x : Claim) (a : ℕ) → a ≡ 0 → Whole H x a
+nought H x a e = (0, ap (λ (k : ℕ). k * x .n) e ∙ omega arith)
 
+module _ (H K : ℕ) (c : Claim) where
   -- once K is used up, only whole numbers follow
-  filled-whole : {s : ℕ} {xs : List Claim} {cs : List ℕ} → All IsRate xs → All (Minuted H) xs → Filled K c s xs cs → K ≤ s → numerator xs cs ≡ paid H xs cs * (denominator xs * H)
-  unfolding paid
-  filled-whole w m done g = omega arith
-  filled-whole w m (over {x = x} {xs = xs} k f) g =
-      sum-whole H (x .d) (x .most) (x .n) (x .n) (denominator xs) _ pH (w .0) (denominator-pos xs (w .1)) (full x _ (m .0) refl) _ (filled-whole (w .1) (m .1) f g)
-  filled-whole w m (under {x = x} {xs = xs} k f) g =
-      sum-whole H (x .d) 0 (x .n) 0 (denominator xs) _ pH (w .0) (denominator-pos xs (w .1)) (none x _ refl) _ (filled-whole (w .1) (m .1) f g)
-  filled-whole w m (level {s = s} {x = x} {xs = xs} k k' f) g =
-      sum-whole H (x .d) _ (x .n) 0 (denominator xs) _ pH (w .0) (denominator-pos xs (w .1)) (none x (min (x .most) (K - s)) (omega arith)) _ (filled-whole (w .1) (m .1) f (omega arith))
+  filled-wholes : {s : ℕ} {xs : List Claim} {cs : List ℕ} → All (Minuted H) xs → Filled K c s xs cs → K ≤ s → Wholes H xs cs
+  filled-wholes m done g = tt
+  filled-wholes m (over {x = x} k f) g = (full H x _ (m .0) refl, filled-wholes (m .1) f g)
+  filled-wholes m (under {x = x} k f) g = (nought H x _ refl, filled-wholes (m .1) f g)
+  filled-wholes m (level {s = s} {x = x} k k' f) g = (nought H x (min (x .most) (K - s)) (omega arith), filled-wholes (m .1) f (omega arith))
 
-  filled-rounded : {s : ℕ} {xs : List Claim} {cs : List ℕ} → All IsRate xs → All (Minuted H) xs → Filled K c s xs cs → rounded (numerator xs cs) (denominator xs * H) ≡ paid H xs cs
-  unfolding paid
-  filled-rounded w m done = rounded-zero (1 * H) (omega arith)
-  filled-rounded w m (over {x = x} {xs = xs} k f) =
-      sum-rounded H (x .d) (x .most) (x .n) (x .n) (denominator xs) _ pH (w .0) (denominator-pos xs (w .1)) (full x _ (m .0) refl) _ (filled-rounded (w .1) (m .1) f)
-  filled-rounded w m (under {x = x} {xs = xs} k f) =
-      sum-rounded H (x .d) 0 (x .n) 0 (denominator xs) _ pH (w .0) (denominator-pos xs (w .1)) (none x _ refl) _ (filled-rounded (w .1) (m .1) f)
-  filled-rounded w m (level {s = s} {x = x} {xs = xs} k k' f) =
+  filled-lone : {s : ℕ} {xs : List Claim} {cs : List ℕ} → All (Minuted H) xs → Filled K c s xs cs → Lone H xs cs
+  filled-lone m done = none
+  filled-lone m (over {x = x} k f) = skip (full H x _ (m .0) refl) (filled-lone (m .1) f)
+  filled-lone m (under {x = x} k f) = skip (nought H x _ refl) (filled-lone (m .1) f)
+  filled-lone m (level {s = s} {x = x} k k' f) =
       ⊎-elim
-      (λ (g : K ≤ s + x .most). sum-fraction H (x .d) _ (x .n) (denominator xs) _ _ pH (w .0) (denominator-pos xs (w .1)) (filled-whole (w .1) (m .1) f g))
-      (λ (g : s + x .most < K). sum-rounded H (x .d) _ (x .n) (x .n) (denominator xs) _ pH (w .0) (denominator-pos xs (w .1)) (full x (min (x .most) (K - s)) (m .0) (omega arith)) _ (filled-rounded (w .1) (m .1) f))
+      (λ (g : K ≤ s + x .most). this (filled-wholes (m .1) f g))
+      (λ (g : s + x .most < K). skip (full H x (min (x .most) (K - s)) (m .0) (omega arith)) (filled-lone (m .1) f))
       (le-or-lt K (s + x .most))
 
-division-rounded : (H K : ℕ) (xs : List Claim) → 0 < H → All IsRate xs → All (Minuted H) xs → rounded (numerator xs (division K xs)) (denominator xs * H) ≡ paid H xs (division K xs)
-division-rounded H K xs pH w m = let s = seen K xs w in filled-rounded H K (s .c) pH w m (s .filled)
-
--- ---- a year with a whole-time post
-
-whole-rounded : (H : ℕ) (xs : List Post) → 0 < H → All HasMinutes xs → rounded (numerator (claims H xs) (wholeTimeParts H xs)) (denominator (claims H xs) * H) ≡ paid H (claims H xs) (wholeTimeParts H xs)
-unfolding paid
-whole-rounded H [] pH w = rounded-zero (1 * H) (omega arith)
-whole-rounded H (x ∷ xs) pH w =
-    sum-rounded H (h x) _ (p x) (cond (wholeTime x) (p x) 0) (denominator (claims H xs)) _ pH (w .0) (denominator-pos (claims H xs) (rated H xs (w .1))) (given (wholeTime x)) _ (whole-rounded H xs pH (w .1))
+whole-lone : (H : ℕ) (xs : List Post) → Lone H (claims H xs) (wholeTimeParts H xs)
+whole-lone H [] = none
+whole-lone H (x ∷ xs) = skip (by (wholeTime x)) (whole-lone H xs)
   where
-    given : (b : Bool) → cond b (h x * H) 0 * p x ≡ cond b (p x) 0 * (h x * H)
-    given true = omega arith
-    given false = omega arith
+    by : (b : Bool) → Whole H (claim H x) (cond b (h x * H) 0)
+    by true = full H (claim H x) (h x * H) refl refl
+    by false = nought H (claim H x) 0 refl
+
+parts-lone : (xs : List Post) → All HasMinutes xs → Lone (contractedMinutes xs) (claims (contractedMinutes xs) xs) (parts xs)
+parts-lone xs w = by (anyWholeTime xs)
+  where
+    H : ℕ
+    H = contractedMinutes xs
+
+    by : (b : Bool) → Lone H (claims H xs) (cond b (wholeTimeParts H xs) (division (weightedParts xs) (claims H xs)))
+    by true = whole-lone H xs
+    by false = let s = seen (weightedParts xs) (claims H xs) (rated H xs w) in filled-lone H (weightedParts xs) (s .c) (minuted H xs) (s .filled)
 
 -- ---- the theorems
 
+parts-rounds : (xs : List Post) → All HasMinutes xs
+    → Rounds (numerator (claims (contractedMinutes xs) xs) (parts xs)) (denominator (claims (contractedMinutes xs) xs) * contractedMinutes xs)
+    (paid (contractedMinutes xs) (claims (contractedMinutes xs) xs) (parts xs)) (paidWay (contractedMinutes xs) (claims (contractedMinutes xs) xs) (parts xs))
+unfolding paid paidWay rounded way
+parts-rounds [] w = (refl, refl)
+parts-rounds (x ∷ xs) w = lone-rounds (contractedMinutes (x ∷ xs)) (omega arith) _ _ (rated _ (x ∷ xs) w) (parts-lone (x ∷ xs) w)
+
 pub aggregate-closed : (xs : List Post) → All HasMinutes xs → aggregatePay xs ≡ paid (contractedMinutes xs) (claims (contractedMinutes xs) xs) (parts xs)
-unfolding paid rounded aggregate aggregatePay
-aggregate-closed [] w = refl
-aggregate-closed (x ∷ xs) w = by (anyWholeTime (x ∷ xs))
-  where
-    H : ℕ
-    H = contractedMinutes (x ∷ xs)
+unfolding aggregate aggregatePay
+aggregate-closed xs w = parts-rounds xs w .0
 
-    cs : List Claim
-    cs = claims H (x ∷ xs)
-
-    own : Bool → List ℕ
-    own b = cond b (wholeTimeParts H (x ∷ xs)) (division (weightedParts (x ∷ xs)) cs)
-
-    by : (b : Bool) → rounded (numerator cs (own b)) (denominator cs * H) ≡ paid H cs (own b)
-    by true = whole-rounded H (x ∷ xs) (omega arith) w
-    by false = division-rounded H (weightedParts (x ∷ xs)) cs (omega arith) (rated H (x ∷ xs) w) (minuted H (x ∷ xs))
+pub way-closed : (xs : List Post) → All HasMinutes xs → aggregateWay xs ≡ paidWay (contractedMinutes xs) (claims (contractedMinutes xs) xs) (parts xs)
+unfolding aggregateWay
+way-closed xs w = parts-rounds xs w .1
 
 -- the parts of a year without a whole-time post
 pub parts-part-time : (xs : List Post) → anyWholeTime xs ≡ false → parts xs ≡ division (weightedParts xs) (claims (contractedMinutes xs) xs)

@@ -13,9 +13,10 @@ use borrow.Author.Tests.{ltb-true, lt-ltb, le-ltb, eqb-true, eq-eqb, ne-eqb}
 use Rattle.measures.specs.Lists.{All}
 use Rattle.measures.specs.Limits.{highestPay, highestAggregate, mostPosts}
 use Rattle.measures.proofs.Lists.{all-end, all-at, all-map}
+use Rattle.measures.specs.declared.Way.{Way}
 use Rattle.measures.specs.Rounding.{rounded}
 use Rattle.measures.specs.Refusals.{unless}
-use Rattle.measures.proofs.Rounding.{rounded-whole, rounded-bound}
+use Rattle.measures.proofs.Rounding.{rounded-bound}
 use Rattle.measures.proofs.Tests.{parts as tested, passed, neither, and-left, and-right}
 use Rattle.posts.specs.declared.Post.{Post}
 use Rattle.posts.specs.declared.YearPosts.{YearPosts}
@@ -24,7 +25,7 @@ use Rattle.posts.specs.Limits.{longestWeek, mostMinutes, heaviestWeek, m
 use Rattle.posts.specs.Posts.{h, w, p, HasMinutes, contractedMinutes, weightedParts, wholeTime, anyWholeTime, parts, aggregatePay}
 use Rattle.posts.specs.Refusals.{postStands, Stands, postRefusal}
 use Rattle.posts.specs.Year.{noPost, noPosts, postsOf, Held, joinedBy, joining}
-use Rattle.posts.proofs.Aggregate.{payTotal, aggregate-bound, parts-within}
+use Rattle.posts.proofs.Aggregate.{Rounds, rounds-whole, payTotal, aggregate-bound, parts-within}
 
 -- the limits of refusal 7
 pub record Standing (x : Post) : Type 0 where
@@ -212,9 +213,9 @@ module _ (x : Post) (part H : ℕ) (s : Stands x) (some : 0 < H) where
   pub parts-some : 0 < h x * H
   parts-some = mul-pos (standing x s .some) some
 
-  -- a post in full gets its pay
-  pub pay-full : part ≡ h x * H → p x ≡ rounded (part * p x) (h x * H)
-  pay-full e = sym (ap (λ (n : ℕ). rounded n (h x * H)) (ap (λ (n : ℕ). n * p x) e ∙ mul-comm (h x * H) (p x)) ∙ rounded-whole (p x) (h x * H) parts-some)
+  -- a post in full gets its pay, which is exact
+  pub pay-full : part ≡ h x * H → Rounds (part * p x) (h x * H) (p x) Way.Exact
+  pay-full e = rounds-whole (part * p x) (p x) (h x * H) parts-some (ap (λ (n : ℕ). n * p x) e ∙ mul-comm (h x * H) (p x))
 
   pub pay-most-for : part ≤ h x * H → rounded (part * p x) (h x * H) ≤ highestPay
   pay-most-for g =

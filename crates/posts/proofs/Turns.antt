@@ -1,4 +1,4 @@
--- The turns of the loops over a year's posts: what one post adds to the minutes ahead, to the parts and to the pay.
+-- The turns of the loops over a year's posts: what one post adds to the minutes ahead, to the parts, to the pay and to its way.
 use mathlib.Core.Path.{_≡_, refl, sym, _∙_, ap, ap₂}
 use mathlib.Core.Bool.{Bool, true, false, cond}
 use mathlib.Core.List.{List, [], _∷_, _++_}
@@ -11,15 +11,16 @@ use lib.ListN.{length, take, drop, getD, set, length-set, drop-of-length-le}
 use lib.Seq.{drop-cons, set-at, append-snoc, getD-take, take-suc, take-all, length-take-le}
 use borrow.Author.Tests.{ltb-true, ltb-false, le-ltb}
 use Rattle.measures.specs.Limits.{highestPay, mostPosts}
-use Rattle.measures.specs.Rounding.{rounded}
+use Rattle.measures.specs.declared.Way.{Way}
+use Rattle.measures.specs.Rounding.{rounded, way}
 use Rattle.posts.specs.declared.Post.{Post}
 use Rattle.posts.specs.declared.YearPosts.{YearPosts}
 use Rattle.posts.specs.Division.{Claim, Within, nothing, more, higher, noLower, partsOf, claimAt, division, shares}
-use Rattle.posts.specs.Posts.{h, p, contractedMinutes, weightedParts, claim, claims, wholeTime, anyWholeTime, wholeTimeParts, parts, aggregatePay}
+use Rattle.posts.specs.Posts.{h, p, contractedMinutes, weightedParts, claim, claims, wholeTime, anyWholeTime, wholeTimeParts, parts, aggregatePay, aggregateWay}
 use Rattle.posts.specs.Rates.{rankedBefore, minutesAhead}
-use Rattle.posts.specs.Paid.{paid}
+use Rattle.posts.specs.Paid.{paid, eitherWay, paidWay}
 use Rattle.posts.specs.Year.{noPost, noParts, postsOf, Held}
-use Rattle.posts.proofs.Aggregate.{aggregate-closed, parts-within}
+use Rattle.posts.proofs.Aggregate.{aggregate-closed, way-closed, either-exact, parts-within}
 use Rattle.posts.proofs.Ranking.{division-at}
 use Rattle.posts.proofs.Standing.{stand-worked, posts-count}
 
@@ -146,12 +147,20 @@ within-at H [] [] i nothing g = absurd (not-suc-le-zero g)
 within-at H (x ∷ xs) (q ∷ qs) zero (more k u) g = k
 within-at H (x ∷ xs) (q ∷ qs) (suc i) (more k u) g = within-at H xs qs i u (le-of-suc-le-suc g)
 
--- what the claims from place i on are paid
+-- what the claims from place i on are paid, and which way that goes
 paid-turn : (H : ℕ) (xs : List Post) (qs : List ℕ) (i : ℕ) → i < length xs → i < length qs
-    → paid H (claims H (drop i xs)) (drop i qs)
-    ≡ rounded (getD qs i 0 * p (getD xs i noPost)) (h (getD xs i noPost) * H) + paid H (claims H (drop (i + 1) xs)) (drop (i + 1) qs)
-unfolding paid
-paid-turn H xs qs i g k = rw (add-one, drop-cons xs i noPost g, drop-cons qs i 0 k) refl
+    → (paid H (claims H (drop i xs)) (drop i qs)
+    ≡ rounded (getD qs i 0 * p (getD xs i noPost)) (h (getD xs i noPost) * H) + paid H (claims H (drop (i + 1) xs)) (drop (i + 1) qs))
+    × (paidWay H (claims H (drop i xs)) (drop i qs)
+    ≡ eitherWay (way (getD qs i 0 * p (getD xs i noPost)) (h (getD xs i noPost) * H)) (paidWay H (claims H (drop (i + 1) xs)) (drop (i + 1) qs)))
+unfolding paid paidWay
+paid-turn H xs qs i g k = rw (add-one, drop-cons xs i noPost g, drop-cons qs i 0 k) (refl, refl)
+
+either-assoc : (u v t : Way) → eitherWay (eitherWay u v) t ≡ eitherWay u (eitherWay v t)
+unfolding eitherWay
+either-assoc Way.Exact v t = refl
+either-assoc Way.Down v t = refl
+either-assoc Way.Up v t = refl
 
 -- ---- writing
 
@@ -170,13 +179,18 @@ write-turn s d i hs hd =
 abbrev paidFrom : YearPosts → ℕ → ℕ
 paidFrom y i = paid (y .minutes .0) (claims (y .minutes .0) (drop i (postsOf y))) (drop i (parts (postsOf y)))
 
--- the parts and the pay of the posts before place i
-pub record Upto (y : YearPosts) (out : List ℕ) (pay i : ℕ) : Type 0 where
+-- and which way that goes
+abbrev wayFrom : YearPosts → ℕ → Way
+wayFrom y i = paidWay (y .minutes .0) (claims (y .minutes .0) (drop i (postsOf y))) (drop i (parts (postsOf y)))
+
+-- the parts and the pay of the posts before place i, and which way that pay went
+pub record Upto (y : YearPosts) (out : List ℕ) (pay : ℕ) (went : Way) (i : ℕ) : Type 0 where
   pub within : i ≤ y .count
   pub room : length out ≡ mostPosts
   pub written : out ≡ take i (parts (postsOf y)) ++ drop i noParts
   pub most : pay ≤ highestPay * i
   pub earned : pay + paidFrom y i ≡ aggregatePay (postsOf y)
+  pub way : eitherWay went (wayFrom y i) ≡ aggregateWay (postsOf y)
 
 module _ (y : YearPosts) (held : Held y) where
   count : length (postsOf y) ≡ y .count
@@ -207,27 +221,37 @@ module _ (y : YearPosts) (held : Held y) where
       rw (held .minutes, ← at-place i g)
       (within-at (contractedMinutes (postsOf y)) (postsOf y) (parts (postsOf y)) i (parts-within (postsOf y)) (omega (arith, count)))
 
+  -- what the post at place i is paid for so many parts, before it is rounded: over the line, and under it
+  abbrev over : ℕ → ℕ → ℕ
+  over i part = part * p (getD (y .list) i noPost)
+
+  abbrev under : ℕ → ℕ
+  under i = h (getD (y .list) i noPost) * y .minutes .0
+
   paid-front : (i : ℕ) → i < y .count
-      → paidFrom y i
-      ≡ rounded (getD (parts (postsOf y)) i 0 * p (getD (y .list) i noPost)) (h (getD (y .list) i noPost) * y .minutes .0) + paidFrom y (i + 1)
+      → (paidFrom y i ≡ rounded (over i (getD (parts (postsOf y)) i 0)) (under i) + paidFrom y (i + 1))
+      × (wayFrom y i ≡ eitherWay (way (over i (getD (parts (postsOf y)) i 0)) (under i)) (wayFrom y (i + 1)))
   paid-front i g =
       rw (← at-place i g)
       (paid-turn (y .minutes .0) (postsOf y) (parts (postsOf y)) i (omega (arith, count)) (omega (arith, count, parts-length (postsOf y))))
 
-  paid-past : (i : ℕ) → y .count ≤ i → paidFrom y i ≡ 0
-  unfolding paid
-  paid-past i g = rw (past i g) refl
+  paid-past : (i : ℕ) → y .count ≤ i → (paidFrom y i ≡ 0) × (wayFrom y i ≡ Way.Exact)
+  unfolding paid paidWay
+  paid-past i g = rw (past i g) (refl, refl)
 
-  paid-all : paidFrom y 0 ≡ aggregatePay (postsOf y)
-  paid-all = rw (held .minutes) (sym (aggregate-closed (postsOf y) (stand-worked (postsOf y) (held .stand))))
+  paid-all : (paidFrom y 0 ≡ aggregatePay (postsOf y)) × (wayFrom y 0 ≡ aggregateWay (postsOf y))
+  paid-all =
+      let worked = stand-worked (postsOf y) (held .stand) in
+      rw (held .minutes) (sym (aggregate-closed (postsOf y) worked), sym (way-closed (postsOf y) worked))
 
-  pub upto-start : Upto y noParts 0 0
-  upto-start = record { within = omega arith; room = refl; written = refl; most = omega arith; earned = omega (arith, paid-all) }
+  pub upto-start : Upto y noParts 0 Way.Exact 0
+  unfolding eitherWay
+  upto-start = record { within = omega arith; room = refl; written = refl; most = omega arith; earned = omega (arith, paid-all .0); way = paid-all .1 }
 
-  pub upto-turn : (out : List ℕ) (pay i part earned : ℕ) → Upto y out pay i → i < y .count → part ≡ getD (parts (postsOf y)) i 0
-      → earned ≡ rounded (part * p (getD (y .list) i noPost)) (h (getD (y .list) i noPost) * y .minutes .0) → earned ≤ highestPay
-      → Upto y (set out i part) (pay + earned) (i + 1)
-  upto-turn out pay i part earned u g e f few =
+  pub upto-turn : (out : List ℕ) (pay : ℕ) (went : Way) (i part earned : ℕ) (own next : Way) → Upto y out pay went i → i < y .count → part ≡ getD (parts (postsOf y)) i 0
+      → earned ≡ rounded (over i part) (under i) → earned ≤ highestPay → own ≡ way (over i part) (under i) → next ≡ eitherWay went own
+      → Upto y (set out i part) (pay + earned) next (i + 1)
+  upto-turn out pay went i part earned own next u g e f few v n =
       record {
         within = omega arith;
         room = simp length-set (u .room);
@@ -235,16 +259,23 @@ module _ (y : YearPosts) (held : Held y) where
             ap₂ (λ (l : List ℕ) (x : ℕ). set l i x) (u .written) e
             ∙ write-turn (parts (postsOf y)) noParts i (omega (arith, count, parts-length (postsOf y))) (omega (arith, held .few));
         most = omega (arith, u .most);
-        earned =
-            omega (arith, u .earned, paid-front i g, f ∙ ap (λ (q : ℕ). rounded (q * p (getD (y .list) i noPost)) (h (getD (y .list) i noPost) * y .minutes .0)) e);
+        earned = omega (arith, u .earned, paid-front i g .0, f ∙ ap (λ (q : ℕ). rounded (over i q) (under i)) e);
+        way =
+            ap (λ (t : Way). eitherWay t (wayFrom y (i + 1))) n
+            ∙ either-assoc went own (wayFrom y (i + 1))
+            ∙ ap (λ (t : Way). eitherWay went (eitherWay t (wayFrom y (i + 1)))) (v ∙ ap (λ (q : ℕ). way (over i q) (under i)) e)
+            ∙ ap (eitherWay went) (sym (paid-front i g .1))
+            ∙ u .way;
       }
 
-  pub upto-end : (out : List ℕ) (pay i : ℕ) → Upto y out pay i → y .count ≤ i → (out ≡ parts (postsOf y) ++ drop (y .count) noParts) × (pay ≡ aggregatePay (postsOf y))
-  upto-end out pay i u g = (
+  pub upto-end : (out : List ℕ) (pay : ℕ) (went : Way) (i : ℕ) → Upto y out pay went i → y .count ≤ i
+      → (out ≡ parts (postsOf y) ++ drop (y .count) noParts) × (pay ≡ aggregatePay (postsOf y)) × (went ≡ aggregateWay (postsOf y))
+  upto-end out pay went i u g = (
     u .written
         ∙ ap (λ (k : ℕ). take k (parts (postsOf y)) ++ drop k noParts) here
         ∙ ap (λ (l : List ℕ). l ++ drop (y .count) noParts) (take-all (y .count) (parts (postsOf y)) (omega (arith, count, parts-length (postsOf y)))),
-    omega (arith, u .earned, paid-past i g),
+    omega (arith, u .earned, paid-past i g .0),
+    sym (either-exact went) ∙ ap (eitherWay went) (sym (paid-past i g .1)) ∙ u .way,
   )
     where
       here : i ≡ y .count

@@ -1,7 +1,8 @@
--- The pay of a year's posts, as the code runs it up.
+-- The pay of a year's posts and its way, as the code runs them up.
 use Prim.Native.Nat.{ℕ, _+_, _*_}
 use mathlib.Core.List.{List, [], _∷_}
-use Rattle.measures.specs.Rounding.{rounded}
+use Rattle.measures.specs.declared.Way.{Way}
+use Rattle.measures.specs.Rounding.{rounded, way}
 use Rattle.posts.specs.Division.{Claim}
 
 -- What claims are paid with each of them rounded by itself, H parts to a minute. It is not the sum rounded once, but for the parts
@@ -10,3 +11,15 @@ unfoldable pub paid : ℕ → List Claim → List ℕ → ℕ
 paid H [] cs = 0
 paid H (x ∷ xs) [] = 0
 paid H (x ∷ xs) (a ∷ cs) = rounded (a * x .n) (x .d * H) + paid H xs cs
+
+-- of two roundings of which one at most is not exact, the way of both together
+unfoldable pub eitherWay : Way → Way → Way
+eitherWay Way.Exact other = other
+eitherWay Way.Down other = Way.Down
+eitherWay Way.Up other = Way.Up
+
+-- Which way those roundings went together. For the parts of a year's posts it is the way of the sum rounded once (`way-closed`).
+unfoldable pub paidWay : ℕ → List Claim → List ℕ → Way
+paidWay H [] cs = Way.Exact
+paidWay H (x ∷ xs) [] = Way.Exact
+paidWay H (x ∷ xs) (a ∷ cs) = eitherWay (way (a * x .n) (x .d * H)) (paidWay H xs cs)

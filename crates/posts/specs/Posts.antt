@@ -4,7 +4,8 @@ use Prim.Native.Nat.{ℕ, _+_, _*_, _<_}
 use mathlib.Core.Bool.{Bool, true, false, cond}
 use mathlib.Core.List.{List, [], _∷_}
 use lib.Dec.{eqb}
-use Rattle.measures.specs.Rounding.{rounded}
+use Rattle.measures.specs.declared.Way.{Way}
+use Rattle.measures.specs.Rounding.{rounded, way}
 use Rattle.posts.specs.Division.{Claim, division, AllowedParts, numerator, denominator}
 use Rattle.posts.specs.declared.Post.{Post}
 
@@ -76,6 +77,11 @@ aggregate xs qs =
 -- the aggregate of a year's posts
 unfoldable pub aggregatePay : List Post → ℕ
 aggregatePay xs = aggregate xs (parts xs)
+
+-- "Every step that rounds passes that on" (2.6): which way the year's one rounding went
+unfoldable pub aggregateWay : List Post → Way
+aggregateWay xs =
+    way (numerator (claims (contractedMinutes xs) xs) (parts xs)) (denominator (claims (contractedMinutes xs) xs) * contractedMinutes xs)
 
 -- A rival's parts of one year: "A rival picks, for each post of each year, any whole number of parts from 0 to h × H, together at most that year's K;
 -- in a year with a post of h = w it has instead the parts that the posts step gives, even where they pass K."

@@ -11,7 +11,7 @@ use Rattle.posts.specs.declared.YearPosts.{YearPosts}
 use Rattle.posts.specs.declared.Allocation.{Allocation}
 use Rattle.posts.specs.declared.Changed.{Changed}
 use Rattle.measures.specs.Limits.{mostPosts}
-use Rattle.posts.specs.Posts.{postOf, h, w, contractedMinutes, weightedParts, wholeTime, anyWholeTime, parts, aggregatePay}
+use Rattle.posts.specs.Posts.{postOf, h, w, contractedMinutes, weightedParts, wholeTime, anyWholeTime, parts, aggregatePay, aggregateWay}
 use Rattle.posts.specs.Refusals.{Stands, postRefusal}
 
 -- a place that holds no post
@@ -54,7 +54,8 @@ joining y x = record { year = cond (eqb (postRefusal (postsOf y) x) 0) (joinedBy
 abbrev pub noParts : List ℕ
 noParts = replicate mostPosts 0
 
--- the parts of each post, noughts in the places past the last, and the aggregate pay
+-- the parts of each post, noughts in the places past the last, the aggregate pay, and which way that was rounded
 pub record Allocated (y : YearPosts) (a : Allocation) : Type 0 where
   pub parts : a .parts ≡ parts (postsOf y) ++ drop (y .count) noParts
   pub aggregate : a .aggregate .0 ≡ aggregatePay (postsOf y)
+  pub way : a .way ≡ aggregateWay (postsOf y)

@@ -1,6 +1,7 @@
 // The posts of a year: their rates, the parts that each gets, and the aggregate pay.
 use measures::Minutes;
 use measures::Pence;
+use measures::Way;
 
 mod call;
 mod rates;
@@ -56,8 +57,9 @@ pub struct Changed {
     pub refusal: u64,
 }
 
-// The parts of each post, and the aggregate pay.
+// The parts of each post, the aggregate pay, and which way that was rounded.
 pub struct Allocation {
     pub parts: [u64; MOST_POSTS],
     pub aggregate: Pence,
+    pub way: Way,
 }

@@ -9,15 +9,19 @@ use super::rates::goes_before;
 use measures::HIGHEST_PAY;
 use measures::Minutes;
 use measures::Pence;
+use measures::Stepped;
+use measures::Way;
+use measures::in_pence;
 use measures::scaled;
 ghost use mathlib.Core.Path.{_≡_};
 ghost use mathlib.Core.Bool.{cond, true};
 ghost use Prim.Native.Nat.{_+_, _*_, _-_, _≤_, _<_, min};
 ghost use lib.ListN.{getD};
 ghost use Rattle.measures.specs.Limits.{highestPay};
-ghost use Rattle.measures.specs.Rounding.{rounded};
+ghost use Rattle.measures.specs.Rounding.{rounded, way};
 ghost use Rattle.posts.specs.Limits.{longestWeek, heaviestWeek, mostMinutes};
 ghost use Rattle.posts.specs.Posts.{h, p, wholeTime, parts};
+ghost use Rattle.posts.specs.Paid.{eitherWay};
 ghost use Rattle.posts.specs.Refusals.{Stands, postStands, postRefusal};
 ghost use Rattle.posts.specs.Rates.{minutesAhead};
 ghost use Rattle.posts.specs.Year.{noPost, noPosts, postsOf, Held, joinedBy, joining, Allocated};
@@ -93,15 +97,30 @@ fn at_most(all: u64, limit: u64, taken: u64) -> u64
 }
 
 // A post's pay for its parts: all of it for a post in full, else one rounded fraction.
-fn pay_for(x: Post, part: u64, total: Minutes) -> Pence
+fn pay_for(x: Post, part: u64, total: Minutes) -> Stepped
     requires { ⌜ Stands x × (part ≤ h x * total .0) × (0 < total .0) × (total .0 ≤ mostMinutes) ⌝ }
-    ensures { λ r. ⌜ (r .0 ≡ rounded (part * p x) (h x * total .0)) × (r .0 ≤ highestPay) ⌝ }
+    ensures { λ r. ⌜ (r .amount .0 ≡ rounded (part * p x) (h x * total .0)) × (r .way ≡ way (part * p x) (h x * total .0)) × (r .amount .0 ≤ highestPay) ⌝ }
 {
     let all = in_parts(x.contracted, total);
+    let pay = x.pay;
     if part == all {
-        return x.pay;
+        return Stepped {
+            amount: pay,
+            way: Way::Exact,
+        };
     }
-    Pence(scaled(part, x.pay.0, all))
+    in_pence(scaled(part, pay.0, all))
+}
+
+// Of two roundings of which one at most is not exact, the way of both together.
+fn either_way(one: Way, other: Way) -> Way
+    ensures { λ r. ⌜ r ≡ eitherWay one other ⌝ }
+{
+    match one {
+        Way::Exact => other,
+        Way::Down => Way::Down,
+        Way::Up => Way::Up,
+    }
 }
 
 impl YearPosts {
@@ -210,7 +229,7 @@ impl YearPosts {
         at_most(all, self.weighted, in_parts(self.minutes_ahead(at), total))
     }
 
-    // The parts of each post, and the aggregate pay.
+    // The parts of each post, the aggregate pay, and which way that was rounded.
     pub fn allocate(self) -> Allocation
         requires { ⌜ Held self ⌝ }
         ensures { λ r. ⌜ Allocated self r ⌝ }
@@ -219,14 +238,21 @@ impl YearPosts {
         let total = self.minutes;
         let mut parts = [0u64; MOST_POSTS];
         let mut aggregate = Pence(0);
+        let mut way = Way::Exact;
         let mut i: usize = 0;
         while i < n {
             let part = self.part_of(i);
             let earned = pay_for(self.list[i], part, total);
             parts[i] = part;
-            aggregate.0 += earned.0;
+            aggregate.0 += earned.amount.0;
+            let went = earned.way;
+            way = either_way(way, went);
             i += 1;
         }
-        Allocation { parts, aggregate }
+        Allocation {
+            parts,
+            aggregate,
+            way,
+        }
     }
 }

@@ -1,9 +1,10 @@
 -- Lists by their end, as frames join them.
-use Prim.Native.Nat.{ℕ}
+use Prim.Native.Nat.{ℕ, _+_}
 use mathlib.Core.Path.{_≡_, refl, ap}
 use mathlib.Core.Bool.{Bool, true, false, cond}
 use mathlib.Core.List.{List, [], _∷_, _++_}
 use mathlib.Core.Option.{Option, none, some}
+use native.Mathlib.Omega.{arith}
 use lib.Dec.{eqb}
 use Rattle.posts.specs.declared.Post.{Post}
 use Rattle.posts.specs.Posts.{aggregatePay}
@@ -11,7 +12,7 @@ use Rattle.benefits.specs.Steps.{afterYear}
 use Rattle.frames.specs.declared.Factor.{Factor}
 use Rattle.frames.specs.declared.Debit.{Debit}
 use Rattle.rules.specs.Rules.{WorkedYear, nonEmpty, lastOf, keptPosts, openPosts, addPost}
-use Rattle.rules.specs.Working.{pensionFrom, pensionOf, ownAggregates, orElse, isFor, factorFor, debitFor}
+use Rattle.rules.specs.Working.{pensionFrom, pensionOf, ownAggregates, yearUps, upsFrom, orElse, isFor, factorFor, debitFor}
 
 -- a list is empty, or it has a last element
 pub data Ended {A : Type 0} : List A → Type 0 where
@@ -72,6 +73,15 @@ pension-from-end before (z ∷ ys) y = pension-from-end (afterYear before (z .ye
 pub pension-end : (ys : List WorkedYear) (y : WorkedYear) → pensionOf (ys ++ y ∷ []) (ownAggregates (ys ++ y ∷ [])) ≡ afterYear (pensionOf ys (ownAggregates ys)) (y .year .revaluation) (aggregatePay (y .posts))
 unfolding pensionOf
 pension-end ys y = pension-from-end 0 ys y
+
+ups-from-end : (before : ℕ) (ys : List WorkedYear) (y : WorkedYear) → upsFrom before (ys ++ y ∷ []) ≡ upsFrom before ys + yearUps (pensionFrom before ys (ownAggregates ys)) y
+unfolding upsFrom pensionFrom
+ups-from-end before [] y = omega arith
+ups-from-end before (z ∷ ys) y = omega (arith, ups-from-end (afterYear before (z .year .revaluation) (aggregatePay (z .posts))) ys y)
+
+pub ups-end : (ys : List WorkedYear) (y : WorkedYear) → upsFrom 0 (ys ++ y ∷ []) ≡ upsFrom 0 ys + yearUps (pensionOf ys (ownAggregates ys)) y
+unfolding pensionOf
+ups-end ys y = ups-from-end 0 ys y
 
 -- ---- factors and debits: the one that joins is found first
 

@@ -125,11 +125,11 @@ covered k e =
       ofLumpSum = leb-true _ _ (and-right (one && two) three t);
     }
 
-record Answered (k : Frames) (a : Amounts) : Type 0 where
-  unrefused : closingOf (begun k) ≡ 0
-  is : amountsOf k ≡ a
+pub record Answered (k : Frames) (a : Amounts) : Type 0 where
+  pub unrefused : closingOf (begun k) ≡ 0
+  pub is : amountsOf k ≡ a
 
-answered : (k : Frames) (a : Amounts) → answerOf (begun k) ≡ Outcome.Worked a → Answered k a
+pub answered : (k : Frames) (a : Amounts) → answerOf (begun k) ≡ Outcome.Worked a → Answered k a
 unfolding answerOf workedUnless
 answered k a e = by (eqb (closingOf (begun k)) 0) refl e
   where

@@ -1,4 +1,5 @@
 pub mod Ends
+pub mod Counted
 pub mod Largest
 pub mod Example
 pub mod Starred

@@ -1,15 +1,17 @@
 -- "Steps" over the frames kept: one working, ours and a rival's, from the parts and the final pay that it picks.
-use Prim.Native.Nat.{ℕ, _-_}
+use Prim.Native.Nat.{ℕ, _+_, _-_}
 use mathlib.Core.Bool.{Bool, _&&_, _||_, not, cond}
 use mathlib.Core.List.{List, [], _∷_}
 use mathlib.Core.Option.{Option, none, some}
 use lib.Dec.{leb, eqb}
 use lib.IntN.{ℤ, pos, negsuc}
 use Rattle.measures.specs.Refusals.{unless, firstRefusal}
+use Rattle.measures.specs.Rounding.{upward}
+use Rattle.measures.specs.declared.Way.{Way}
 use Rattle.calendar.specs.Dates.{monthsEarly}
-use Rattle.posts.specs.Posts.{aggregate, aggregatePay, parts}
-use Rattle.benefits.specs.Steps.{afterYear, finalPay, sectionPension, lumpSum, reduced, pensionDebit, lumpDebit, charge}
-use Rattle.averages.specs.Averages.{averagePay, averages, pension2008}
+use Rattle.posts.specs.Posts.{aggregate, aggregatePay, aggregateWay, parts}
+use Rattle.benefits.specs.Steps.{afterYear, afterYearUps, finalPay, sectionPension, sectionPensionWay, lumpSum, reduced, reducedWay, pensionDebit, pensionDebitWay, lumpDebit, charge, chargeUps}
+use Rattle.averages.specs.Averages.{averagePay, averageWay, averages, pension2008, pension2008Way}
 use Rattle.frames.specs.declared.Member.{Member}
 use Rattle.frames.specs.declared.Factor.{Factor}
 use Rattle.frames.specs.declared.Debit.{Debit}
@@ -170,6 +172,67 @@ chargeOf none = 0
 chargeOf (some (of1995 f)) = charge f
 chargeOf (some (of2008 t)) = 0
 
+-- ---- Which way a penny went (2.6): of our own working, the steps that round, in their order
+
+-- of a year: the aggregate, "rounded once", the pension revalued, and the 54th
+unfoldable pub yearUps : ℕ → WorkedYear → ℕ
+yearUps pension y = upward (aggregateWay (y .posts)) + afterYearUps pension (y .year .revaluation) (aggregatePay (y .posts))
+
+-- of each year in order
+unfoldable pub upsFrom : ℕ → List WorkedYear → ℕ
+upsFrom pension [] = 0
+upsFrom pension (y ∷ ys) = yearUps pension y + upsFrom (afterYear pension (y .year .revaluation) (aggregatePay (y .posts))) ys
+
+-- of the section's pension: "with 2.4's pension and its one average taken, the best before rounding"
+unfoldable pub sectionUps : Option SectionPay → ℕ
+sectionUps none = 0
+sectionUps (some (of1995 f)) = upward (sectionPensionWay (finalPay f) (f .days))
+sectionUps (some (of2008 t)) = upward (averageWay t) + upward (pension2008Way (averagePay t) (t .days))
+
+-- of a reduction; one that is not made rounds nothing
+unfoldable pub reducedIfWay : ℕ → ℕ → ℕ → Way
+reducedIfWay months factor amount = cond (eqb months 0) Way.Exact (reducedWay amount factor)
+
+-- that of the 2015 pension
+unfoldable pub reduction2015 : Frames → Way
+reduction2015 k =
+    reducedIfWay (early2015 (k .member)) (pensionFactor (factor2015 k)) (pensionOf (k .years) (ownAggregates (k .years)))
+
+-- of the section's pension
+unfoldable pub reduction1995 : Frames → Way
+reduction1995 k =
+    cond (hasSection k)
+    (reducedIfWay (early1995 (k .member)) (pensionFactor (factor1995 k)) (pension1995 (k .pay) (ownPay (k .pay)))) Way.Exact
+
+-- of the lump sum
+unfoldable pub reductionLumpSum : Frames → Way
+reductionLumpSum k =
+    cond (inSection 1 k)
+    (reducedIfWay (early1995 (k .member)) (lumpFactor (factor1995 k)) (lumpSum (pension1995 (k .pay) (ownPay (k .pay))))) Way.Exact
+
+-- of all three
+unfoldable pub reductionUps : Frames → ℕ
+reductionUps k = upward (reduction2015 k) + upward (reduction1995 k) + upward (reductionLumpSum k)
+
+-- of a debit; "Without its 06 a debit is 0", and nothing is rounded
+unfoldable pub debitWay : Option Debit → Way
+debitWay none = Way.Exact
+debitWay (some d) = pensionDebitWay (d .pot .0) (d .factor)
+
+-- of both debits, scheme 1's where the member has a section
+unfoldable pub debitUps : Frames → ℕ
+debitUps k = upward (debitWay (debitFor 0 (k .debits))) + cond (hasSection k) (upward (debitWay (debitFor 1 (k .debits)))) 0
+
+-- of the charge, where there is an 04
+unfoldable pub chargeUpsOf : Option SectionPay → ℕ
+chargeUpsOf none = 0
+chargeUpsOf (some (of1995 f)) = chargeUps f
+chargeUpsOf (some (of2008 t)) = 0
+
+-- "a worked case carries the count of its upward roundings [..]. The count equals that of the steps in document 01"
+unfoldable pub upsOf : Frames → ℕ
+upsOf k = upsFrom 0 (k .years) + sectionUps (k .pay) + reductionUps k + debitUps k + chargeUpsOf (k .pay)
+
 -- ---- Closing
 
 -- "12, section 1 without 04"; "12 when section 2 has no 08": 4 lets no other section's frame be kept
@@ -200,7 +263,7 @@ closingOf (begun k) = firstRefusal (unless (payThere k) 12) (firstRefusal (unles
 
 -- ---- The amounts given
 
--- "Net = reduced less debit."
+-- "Net = reduced less debit."; with the count of 2.6
 unfoldable pub amountsOf : Frames → Amounts
 amountsOf k =
     record {
@@ -208,6 +271,7 @@ amountsOf k =
       «net_1995» = record { 0 = gross1995 k (ownPay (k .pay)) - debit1995 k };
       «net_lump_sum» = record { 0 = grossLumpSum k (ownPay (k .pay)) - debitLumpSum k };
       charge = record { 0 = chargeOf (k .pay) };
+      ups = upsOf k;
     }
 
 -- the worked case, or the refusal: "At the end, line 0"
@@ -231,8 +295,8 @@ unfoldable pub lineOf : Outcome → ℕ
 lineOf (Outcome.Worked amounts) = 0
 lineOf (Outcome.Refused refusal) = refusal .line
 
--- the amounts; refused, "All amounts 0."
+-- the amounts; refused, "All amounts 0.", and a count that is "nought for a refused one"
 unfoldable pub amountsGiven : Outcome → Amounts
 amountsGiven (Outcome.Worked amounts) = amounts
 amountsGiven (Outcome.Refused refusal) =
-    record { «net_2015» = record { 0 = 0 }; «net_1995» = record { 0 = 0 }; «net_lump_sum» = record { 0 = 0 }; charge = record { 0 = 0 } }
+    record { «net_2015» = record { 0 = 0 }; «net_1995» = record { 0 = 0 }; «net_lump_sum» = record { 0 = 0 }; charge = record { 0 = 0 }; ups = 0 }

@@ -45,16 +45,18 @@ fn amount(name: &[u8], pence: Pence) {
     io::print_decimal(1, pence.0);
 }
 
-// Writes the four amounts.
+// Writes the four amounts, and how many of the roundings on the way to them went up.
 fn amounts(a: Amounts) {
     amount(b": net 2015 ", a.net_2015);
     amount(b", net 1995 ", a.net_1995);
     amount(b", lump sum ", a.net_lump_sum);
     amount(b", charge ", a.charge);
-    io::write_all(1, b" pence\n");
+    io::write_all(1, b" pence, ");
+    io::print_decimal(1, a.ups);
+    io::write_all(1, b" rounded up\n");
 }
 
-// Closes a case: a line of a label and the four amounts, or the refusal and its line.
+// Closes a case: a line of a label and the four amounts with their count, or the refusal and its line.
 pub fn close(case: Case, label: &[u8])
     requires { ⌜ IsCase case ⌝ }
 {

@@ -2,8 +2,9 @@
 // Standard input is a script:
 //   an empty line          starts a new case;
 //   F LABEL|FRAME FRAME    offers frames in hexadecimal, - for no bytes, and writes the label and the refusal of each;
-//   C LABEL                closes the case, and writes the label and the four amounts, or the refusal and its line.
-// The file stdout has what document 01 says of them.
+//   C LABEL                closes the case, and writes the label and the four amounts with the count of upward
+//                          roundings, or the refusal and its line.
+// The file stdout has what the papers say of them.
 mod lines;
 
 use cases::Case;

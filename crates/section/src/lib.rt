@@ -9,14 +9,19 @@ use benefits::final_pay;
 use benefits::final_pay_refusal;
 use benefits::lump_sum;
 use benefits::section_pension;
+use measures::Counted;
 use measures::Pence;
+use measures::upward;
 use rules::SchemeAmounts;
 ghost use mathlib.Core.Path.{_≡_};
 ghost use Prim.Native.Nat.{_≤_};
 ghost use Rattle.benefits.specs.Bounds.{FinalPayBounds};
 ghost use Rattle.benefits.specs.Limits.{highestAmount};
-ghost use Rattle.benefits.specs.Steps.{charge};
-ghost use Rattle.section.specs.Section.{noPay, noAverage, noSection, payTaken, tenPaysTaken, payHeld, pensionOfPay, pensionEarned, lumpEarned, earnedOf, SectionBounds};
+ghost use Rattle.benefits.specs.Steps.{charge, chargeUps};
+ghost use Rattle.averages.specs.Averages.{pension2008};
+ghost use Rattle.averages.specs.Bounds.{AveragePayBounds};
+ghost use Rattle.rules.specs.Amounts.{upsOfYears};
+ghost use Rattle.section.specs.Section.{noPay, noAverage, noSection, payTaken, tenPaysTaken, payHeld, pensionOfPay, upsOfPay, upsOfAverage, pensionEarned, upsEarnedBy, lumpEarned, earnedOf, SectionBounds};
 
 // Whether the section's pay frame was taken, and what is held of it: the 04, or the average of the 08; noughts otherwise.
 pub struct SectionState {
@@ -58,16 +63,33 @@ fn no_average() -> AveragePay
         pay: Pence(0),
         year: 0,
         days: 0,
+        ups: 0,
     }
 }
 
-// The 1995 pension of a final pay, before any reduction.
-fn pension_of(pay: FinalPay) -> Pence
+// The 1995 pension of a final pay, before any reduction, and whether its rounding went up.
+fn pension_of(pay: FinalPay) -> Counted
     requires { ⌜ FinalPayBounds pay ⌝ }
-    ensures { λ r. ⌜ r .0 ≡ pensionOfPay pay ⌝ }
+    ensures { λ r. ⌜ (r .amount .0 ≡ pensionOfPay pay) × (r .ups ≡ upsOfPay pay) ⌝ }
 {
     let best = final_pay(pay);
-    section_pension(best.pay, pay.days)
+    let pension = section_pension(best.pay, pay.days);
+    let amount = pension.amount;
+    let way = pension.way;
+    let ups = upward(way);
+    Counted { amount, ups }
+}
+
+// The 2008 pension of an average pay, before any reduction, and how many of both roundings went up.
+fn pension_of_average(average: AveragePay) -> Counted
+    requires { ⌜ AveragePayBounds average ⌝ }
+    ensures { λ r. ⌜ (r .amount .0 ≡ pension2008 (average .pay .0) (average .days)) × (r .ups ≡ upsOfAverage average) ⌝ }
+{
+    let pension = pension_2008(average.pay, average.days);
+    let amount = pension.amount;
+    let way = pension.way;
+    let ups = average.ups + upward(way);
+    Counted { amount, ups }
 }
 
 // The lump sum that goes with the section's pension: there is one in the 1995 Section alone.
@@ -152,37 +174,42 @@ impl SectionState {
         self.given
     }
 
-    // The pension of the member's section before any reduction, 0 without a section.
-    fn pension(self, section: u64) -> Pence
+    // The pension of the member's section before any reduction, 0 without a section, and how many of its roundings went up.
+    fn pension(self, section: u64) -> Counted
         requires { ⌜ SectionBounds self ⌝ }
-        ensures { λ r. ⌜ r .0 ≡ pensionEarned section self ⌝ }
+        ensures { λ r. ⌜ (r .amount .0 ≡ pensionEarned section self) × (r .ups ≡ upsEarnedBy section self) ⌝ }
     {
-        let average = self.average;
         match section {
             1 => pension_of(self.pay),
-            2 => pension_2008(average.pay, average.days),
-            _ => Pence(0),
+            2 => pension_of_average(self.average),
+            _ => Counted {
+                amount: Pence(0),
+                ups: 0,
+            },
         }
     }
 
     // The amounts before any reduction, with the 2015 pension beside those of the section.
-    pub fn earned(self, section: u64, pension2015: Pence) -> SchemeAmounts
-        requires { ⌜ SectionBounds self ⌝ }
-        ensures { λ r. ⌜ r ≡ earnedOf self section (pension2015 .0) ⌝ }
+    pub fn earned(self, section: u64, years: Counted) -> SchemeAmounts
+        requires { ⌜ SectionBounds self × (years .ups ≤ upsOfYears) ⌝ }
+        ensures { λ r. ⌜ r ≡ earnedOf self section (years .amount .0) (years .ups) ⌝ }
     {
-        let pension1995 = self.pension(section);
+        let pension2015 = years.amount;
+        let own = self.pension(section);
+        let pension1995 = own.amount;
         let lump = lump_earned(section, pension1995);
         SchemeAmounts {
             pension2015,
             pension1995,
             lump_sum: lump,
+            ups: years.ups + own.ups,
         }
     }
 
-    // The employer's final pay charge, 0 without an 04.
-    pub fn charge(self) -> Pence
+    // The employer's final pay charge, 0 without an 04, and how many of the roundings on the way to it went up.
+    pub fn charge(self) -> Counted
         requires { ⌜ SectionBounds self ⌝ }
-        ensures { λ r. ⌜ r .0 ≡ charge (self .pay) ⌝ }
+        ensures { λ r. ⌜ (r .amount .0 ≡ charge (self .pay)) × (r .ups ≡ chargeUps (self .pay)) ⌝ }
     {
         benefits::charge(self.pay)
     }

@@ -1,19 +1,19 @@
--- The printed case of document 01 as a text, by computation: its line has 66,667 pence.
+-- The printed case of document 01 as a text, by computation: its line has 66,667 pence and one rounding that went up.
 use Prim.Native.Nat.{ℕ}
 use mathlib.Core.Path.{_≡_, refl}
 use mathlib.Core.List.{List, [], _∷_}
-use Rattle.measures.specs.Rounding.{rounded}
+use Rattle.measures.specs.Rounding.{rounded, way, upward}
 use Rattle.fields.specs.Fields.{oneAt, twoAt, fourAt}
 use Rattle.calendar.specs.Dates.{isLeap, monthLength, completingDay, completedMonths, monthsEarly, dateStands, isBefore, datesRefusal}
-use Rattle.posts.specs.Posts.{aggregate, aggregatePay}
+use Rattle.posts.specs.Posts.{aggregate, aggregatePay, aggregateWay}
 use Rattle.posts.specs.Refusals.{postStands, postRefusal}
 use Rattle.posts.specs.Call.{postAt}
-use Rattle.benefits.specs.Steps.{revalued, accrued, afterYear, lumpDebit}
+use Rattle.benefits.specs.Steps.{revalued, revaluedWay, accrued, accruedWay, afterYear, afterYearUps, lumpDebit}
 use Rattle.frames.specs.Frames.{dateAt, memberIn, yearIn, frameLength, frameOf, decoded}
 use Rattle.frames.specs.Limits.{memberRefusal, yearStands}
 use Rattle.rules.specs.declared.Outcome.{Outcome}
 use Rattle.rules.specs.Rules.{lastOf, beforePay, hasSection, inSection, inOrder, isNext, yearRefusal, openPosts, fieldsRefusal, refusalOf, addPost, keep, refusalOfDecoded, keepDecoded}
-use Rattle.rules.specs.Working.{early, pensionFrom, pensionOf, ownPay, pension1995, factorFor, reducedIf, gross2015, gross1995, grossLumpSum, debitFor, debitOf, debit2015, debit1995, debitLumpSum, chargeOf, payThere, factorsThere, debitsFit, closingOf, amountsOf, workedUnless, answerOf}
+use Rattle.rules.specs.Working.{early, pensionFrom, pensionOf, ownPay, pension1995, factorFor, reducedIf, gross2015, gross1995, grossLumpSum, debitFor, debitOf, debit2015, debit1995, debitLumpSum, chargeOf, yearUps, upsFrom, sectionUps, reducedIfWay, reduction2015, reduction1995, reductionLumpSum, reductionUps, debitWay, debitUps, chargeUpsOf, upsOf, payThere, factorsThere, debitsFit, closingOf, amountsOf, workedUnless, answerOf}
 use Rattle.fields.specs.Digits.{digitOf}
 use Rattle.texts.specs.Text.{characterThen, linesOf, byteThen, bytesOf, lineBytes, decodedLine, framesOf, readFrom, workText}
 use Rattle.texts.specs.Printed.{characterOf, digitsOf, printedOf}
@@ -27,20 +27,20 @@ printedText =
     ∷ 48 ∷ 51 ∷ 48 ∷ 51 ∷ 56 ∷ 52 ∷ 48 ∷ 56 ∷ 67 ∷ 65 ∷ 48 ∷ 48 ∷ 49 ∷ 50 ∷ 52 ∷ 70 ∷ 56 ∷ 48 ∷ 10
     ∷ []
 
--- "Output (66 digits; 66,667 pence)", with its 0A
+-- "Output (66 digits; 66,667 pence)", "(0001 in the printed case)", with its 0A
 abbrev pub printedLine : List ℕ
 printedLine =
     56 ∷ 48 ∷ 48 ∷ 48 ∷ 48 ∷ 48 ∷ 48 ∷ 48 ∷ 48 ∷ 48 ∷ 48 ∷ 48 ∷ 48 ∷ 49 ∷ 48 ∷ 52 ∷ 54 ∷ 66 ∷ 48 ∷ 48 ∷ 48 ∷ 48
     ∷ 48 ∷ 48 ∷ 48 ∷ 48 ∷ 48 ∷ 48 ∷ 48 ∷ 48 ∷ 48 ∷ 48 ∷ 48 ∷ 48 ∷ 48 ∷ 48 ∷ 48 ∷ 48 ∷ 48 ∷ 48 ∷ 48 ∷ 48 ∷ 48 ∷ 48
     ∷ 48 ∷ 48 ∷ 48 ∷ 48 ∷ 48 ∷ 48 ∷ 48 ∷ 48 ∷ 48 ∷ 48 ∷ 48 ∷ 48 ∷ 48 ∷ 48 ∷ 48 ∷ 48 ∷ 48 ∷ 48 ∷ 48 ∷ 48 ∷ 48 ∷ 48
-    ∷ 10 ∷ []
+    ∷ 48 ∷ 48 ∷ 48 ∷ 49 ∷ 10 ∷ []
 
 -- the outcome of the printed text
 abbrev pub printedOutcome : Outcome
-printedOutcome = Outcome.Worked (record { «net_2015» = record { 0 = 66667 }; «net_1995» = record { 0 = 0 }; «net_lump_sum» = record { 0 = 0 }; charge = record { 0 = 0 } })
+printedOutcome = Outcome.Worked (record { «net_2015» = record { 0 = 66667 }; «net_1995» = record { 0 = 0 }; «net_lump_sum» = record { 0 = 0 }; charge = record { 0 = 0 }; ups = 1 })
 
 pub printed-text : workText printedText ≡ printedOutcome
-unfolding rounded oneAt twoAt fourAt isLeap monthLength completingDay completedMonths monthsEarly dateStands isBefore datesRefusal aggregate aggregatePay postStands postRefusal postAt revalued accrued afterYear lumpDebit dateAt memberIn yearIn frameLength frameOf decoded memberRefusal yearStands lastOf beforePay hasSection inSection inOrder isNext yearRefusal openPosts fieldsRefusal refusalOf addPost keep refusalOfDecoded keepDecoded early pensionFrom pensionOf ownPay pension1995 factorFor reducedIf gross2015 gross1995 grossLumpSum debitFor debitOf debit2015 debit1995 debitLumpSum chargeOf payThere factorsThere debitsFit closingOf amountsOf workedUnless answerOf characterThen linesOf digitOf byteThen bytesOf lineBytes decodedLine framesOf readFrom workText
+unfolding rounded way upward oneAt twoAt fourAt isLeap monthLength completingDay completedMonths monthsEarly dateStands isBefore datesRefusal aggregate aggregatePay aggregateWay postStands postRefusal postAt revalued revaluedWay accrued accruedWay afterYear afterYearUps lumpDebit dateAt memberIn yearIn frameLength frameOf decoded memberRefusal yearStands lastOf beforePay hasSection inSection inOrder isNext yearRefusal openPosts fieldsRefusal refusalOf addPost keep refusalOfDecoded keepDecoded early pensionFrom pensionOf ownPay pension1995 factorFor reducedIf gross2015 gross1995 grossLumpSum debitFor debitOf debit2015 debit1995 debitLumpSum chargeOf yearUps upsFrom sectionUps reducedIfWay reduction2015 reduction1995 reductionLumpSum reductionUps debitWay debitUps chargeUpsOf upsOf payThere factorsThere debitsFit closingOf amountsOf workedUnless answerOf characterThen linesOf digitOf byteThen bytesOf lineBytes decodedLine framesOf readFrom workText
 printed-text = refl
 
 pub printed-line : printedOf printedOutcome ≡ printedLine

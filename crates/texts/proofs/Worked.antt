@@ -1,5 +1,5 @@
 -- Demand 3 for texts, by that of the running case; and a text beside the running case that is given its frames one by one.
-use Prim.Native.Nat.{ℕ, _+_}
+use Prim.Native.Nat.{ℕ, _+_, _≤_}
 use mathlib.Core.Path.{_≡_, refl, sym, _∙_}
 use mathlib.Core.List.{List, [], _∷_}
 use mathlib.Core.Bool.{Bool, true, false, cond}
@@ -15,7 +15,8 @@ use Rattle.rules.specs.Rules.{Kept, nothing, begun, refusalOfDecoded, keepDecod
 use Rattle.rules.specs.Working.{closingOf, amountsOf, workedUnless, answerOf, numberOf, amountsGiven}
 use Rattle.rules.specs.Rivals.{Largest}
 use Rattle.cases.specs.State.{afterAll, outcomeOf}
-use Rattle.cases.proofs.Contracts.{largest-decoded, answer-running}
+use Rattle.rules.proofs.Counted.{mostUps}
+use Rattle.cases.proofs.Contracts.{largest-decoded, answer-running, count-running}
 use Rattle.texts.specs.Text.{framesOf, readFrom, longestText, workText, TextWorked}
 
 -- a worked text had nothing refused, and its answer is that of the frames kept
@@ -57,6 +58,11 @@ text-running text a e = answer-running (framesOf text) ∙ text-read text a e .a
 -- For every text that is not refused, no rival working of its frames has more.
 pub largest-text : (text : List ℕ) (a : Amounts) → workText text ≡ Outcome.Worked a → Largest (kept (framesOf text)) a
 largest-text text a e = largest-decoded (framesOf text) a (text-running text a e)
+
+-- Its count of upward roundings is at most 161, so that the two bytes of the line hold it whole.
+pub count-text : (text : List ℕ) (a : Amounts) → workText text ≡ Outcome.Worked a → a .ups ≤ mostUps
+unfolding kept
+count-text text a e = count-running (framesOf text) a (text-read text a e .answer)
 
 pub text-worked : (text : List ℕ) (o : Outcome) → o ≡ workText text → TextWorked text o
 text-worked text o e = record { is = e; largest = λ a w. largest-text text a (sym e ∙ w) }

@@ -26,16 +26,17 @@ bytesOfWidth width number = digitsOf (width + width) number
 abbrev pub digitsOfAmount : Pence → List ℕ
 digitsOfAmount amount = bytesOfWidth 8 (amount .0)
 
--- "80, then net 2015 pension, net 1995 pension, net lump sum, charge, 8 bytes each; or EE, refusal 1 byte, line 2 bytes", "ended by 0A"
+-- "80, then net 2015 pension, net 1995 pension, net lump sum, charge, 8 bytes each; or EE, refusal 1 byte, line 2 bytes", "ended by 0A";
+-- "The line that begins with 80 gains it as 2 last bytes" (2.6), the count of upward roundings
 unfoldable pub printedOf : Outcome → List ℕ
 printedOf (Outcome.Worked a) =
     bytesOfWidth 1 0x80 ++ digitsOfAmount (a .«net_2015») ++ digitsOfAmount (a .«net_1995»)
-    ++ digitsOfAmount (a .«net_lump_sum») ++ digitsOfAmount (a .charge) ++ 0x0A ∷ []
+    ++ digitsOfAmount (a .«net_lump_sum») ++ digitsOfAmount (a .charge) ++ bytesOfWidth 2 (a .ups) ++ 0x0A ∷ []
 printedOf (Outcome.Refused r) = bytesOfWidth 1 0xEE ++ bytesOfWidth 1 (r .number) ++ bytesOfWidth 2 (r .line) ++ 0x0A ∷ []
 
--- the digits of the longest printed line: "66 digits"
+-- the digits of the longest printed line: "66 digits", and four of the count
 abbrev pub printedDigits : ℕ
-printedDigits = 66
+printedDigits = 70
 
 -- its bytes: the digits and 0A
 abbrev pub printedBytes : ℕ

@@ -9,7 +9,7 @@ pub use reading::work_text;
 pub const LONGEST_TEXT: usize = 32768;
 
 // The digits of the longest printed line.
-const PRINTED_DIGITS: usize = 66;
+const PRINTED_DIGITS: usize = 70;
 
 // Its bytes: the digits and 0A.
 const PRINTED_BYTES: usize = PRINTED_DIGITS + 1;

@@ -11,6 +11,9 @@ ghost use Rattle.texts.specs.Lines.{Room, Extended};
 // The digits of an amount.
 const AMOUNT_DIGITS: usize = 16;
 
+// The digits of the count of upward roundings.
+const COUNT_DIGITS: usize = 4;
+
 // The character of a digit.
 fn character(digit: u8) -> u8
     requires { ⌜ digit < 16 ⌝ }
@@ -68,7 +71,8 @@ pub fn printed(outcome: Outcome) -> PrintedLine
             let net_1995 = with_number(net_2015, AMOUNT_DIGITS, a.net_1995.0);
             let net_lump_sum = with_number(net_1995, AMOUNT_DIGITS, a.net_lump_sum.0);
             let charge = with_number(net_lump_sum, AMOUNT_DIGITS, a.charge.0);
-            with_end(charge)
+            let ups = with_number(charge, COUNT_DIGITS, a.ups);
+            with_end(ups)
         }
         Outcome::Refused(r) => {
             let kind = with_number(empty, 2, 0xEE);

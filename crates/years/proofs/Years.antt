@@ -11,17 +11,18 @@ use lib.ListN.{length}
 use borrow.Author.Tests.{ltb-true, ne-eqb}
 use Rattle.measures.specs.Refusals.{unless}
 use Rattle.measures.specs.Lists.{All}
+use Rattle.measures.specs.Rounding.{upward}
 use Rattle.measures.specs.Tries.{tried}
 use Rattle.measures.proofs.Tests.{clash, passed, and-left, and-right}
 use Rattle.measures.proofs.Lists.{all-end, all-init, length-end}
 use Rattle.posts.specs.declared.Post.{Post}
 use Rattle.posts.specs.declared.YearPosts.{YearPosts}
-use Rattle.posts.specs.Posts.{aggregatePay}
+use Rattle.posts.specs.Posts.{aggregatePay, aggregateWay}
 use Rattle.measures.specs.Limits.{mostPosts}
 use Rattle.posts.specs.Refusals.{Stands, postRefusal}
 use Rattle.posts.specs.Year.{postsOf, Held, joinedBy, joining}
 use Rattle.posts.proofs.Standing.{held-none, Joins, joins, held-joined, posts-joined, posts-count, stand-end, aggregate-most}
-use Rattle.benefits.specs.Steps.{afterYear}
+use Rattle.benefits.specs.Steps.{afterYear, afterYearUps}
 use Rattle.benefits.specs.Limits.{highestRevaluation}
 use Rattle.measures.specs.Limits.{highestAggregate}
 use Rattle.benefits.specs.Bounds.{ceiling}
@@ -30,11 +31,13 @@ use Rattle.frames.specs.declared.Year.{Year}
 use Rattle.frames.specs.Limits.{yearStands}
 use Rattle.frames.proofs.Accepted.{year-good}
 use Rattle.rules.specs.Rules.{WorkedYear, nonEmpty, lastOf, mostYears, isNext, yearRefusal, openPosts, newYear, addPost}
-use Rattle.rules.specs.Working.{pensionFrom, pensionOf, ownAggregates}
-use Rattle.rules.proofs.Ends.{Ended, empty, ends, ended, last-end, nonempty-end, allButLast, butlast-end, joinedYear, add-end, open-end, pension-end}
+use Rattle.rules.specs.Amounts.{upsOfYears}
+use Rattle.rules.specs.Working.{pensionFrom, pensionOf, ownAggregates, yearUps, upsFrom}
+use Rattle.rules.proofs.Ends.{Ended, empty, ends, ended, last-end, nonempty-end, allButLast, butlast-end, joinedYear, add-end, open-end, pension-end, ups-end}
+use Rattle.rules.proofs.Counted.{upsFrom-most}
 use Rattle.years.specs.declared.YearsState.{YearsState}
 use Rattle.years.specs.declared.YearsTaken.{YearsTaken}
-use Rattle.years.specs.Years.{noYears, yearFields, postFields, pensionNow, withYear, withPost, postTaken, YearsBounds}
+use Rattle.years.specs.Years.{noYears, yearFields, postFields, pensionNow, upsNow, withYear, withPost, postTaken, YearsBounds}
 
 -- ---- the code
 
@@ -48,11 +51,11 @@ pub aggregate-limit : (y : YearPosts) → Held y → aggregatePay (postsOf y) �
 aggregate-limit y held = aggregate-most (postsOf y) (held .stand) (omega (arith, held .few, posts-count y held))
 
 -- the years with what the last year hands back are the years with the post, or as they were
-pub post-handed : (s : YearsState) (x : Post) → _≡_ {A = YearsTaken} (record { years = record { count = s .count; april = s .april; revaluation = s .revaluation; pension = s .pension; posts = joining (s .posts) x .year }; refusal = joining (s .posts) x .refusal }) (postTaken s x)
+pub post-handed : (s : YearsState) (x : Post) → _≡_ {A = YearsTaken} (record { years = record { count = s .count; april = s .april; revaluation = s .revaluation; pension = s .pension; ups = s .ups; posts = joining (s .posts) x .year }; refusal = joining (s .posts) x .refusal }) (postTaken s x)
 unfolding joining postTaken postFields withPost tried
 post-handed s x = by (eqb (postRefusal (postsOf (s .posts)) x) 0)
   where
-    by : (t : Bool) → _≡_ {A = YearsTaken} (record { years = record { count = s .count; april = s .april; revaluation = s .revaluation; pension = s .pension; posts = cond t (joinedBy (s .posts) x) (s .posts) }; refusal = postRefusal (postsOf (s .posts)) x }) (record { years = cond t (withPost s x) s; refusal = postRefusal (postsOf (s .posts)) x })
+    by : (t : Bool) → _≡_ {A = YearsTaken} (record { years = record { count = s .count; april = s .april; revaluation = s .revaluation; pension = s .pension; ups = s .ups; posts = cond t (joinedBy (s .posts) x) (s .posts) }; refusal = postRefusal (postsOf (s .posts)) x }) (record { years = cond t (withPost s x) s; refusal = postRefusal (postsOf (s .posts)) x })
     by true = refl
     by false = refl
 
@@ -71,12 +74,13 @@ pub record HoldsYears (s : YearsState) (ys : List WorkedYear) : Type 0 where
   pub april : s .april ≡ aprilOf (lastOf ys)
   pub revaluation : s .revaluation ≡ revaluationOf (lastOf ys)
   pub pension : s .pension .0 ≡ pensionOf (allButLast ys) (ownAggregates (allButLast ys))
+  pub ups : s .ups ≡ upsFrom 0 (allButLast ys)
   pub held : Held (s .posts)
   pub posts : postsOf (s .posts) ≡ openPosts ys
 
 pub years-none : HoldsYears noYears []
-unfolding lastOf allButLast pensionOf pensionFrom openPosts
-years-none = record { count = refl; april = refl; revaluation = refl; pension = refl; held = held-none; posts = refl }
+unfolding lastOf allButLast pensionOf pensionFrom upsFrom openPosts
+years-none = record { count = refl; april = refl; revaluation = refl; pension = refl; ups = refl; held = held-none; posts = refl }
 
 -- what holds of years none of whose frames was refused
 pub record GoodYear (y : WorkedYear) : Type 0 where
@@ -116,6 +120,16 @@ module _ (s : YearsState) (ys : List WorkedYear) (h : HoldsYears s ys) where
       by (ends xs x) =
           rw (last-end xs x, butlast-end xs x, open-end xs x, ne-eqb (length (xs ++ x ∷ [])) 0 (omega (arith, length-end xs x))) (sym (pension-end xs x))
 
+  -- and so is the count of its upward roundings
+  pub ups-now : upsNow s ≡ upsFrom 0 ys
+  unfolding upsNow upsFrom yearUps
+  ups-now = rw (h .count, h .revaluation, h .pension, h .ups, h .posts) (by (ended ys))
+    where
+      by : {l : List WorkedYear} → Ended l → cond (eqb (length l) 0) 0 (upsFrom 0 (allButLast l) + (upward (aggregateWay (openPosts l)) + afterYearUps (pensionOf (allButLast l) (ownAggregates (allButLast l))) (revaluationOf (lastOf l)) (aggregatePay (openPosts l)))) ≡ upsFrom 0 l
+      by empty = refl
+      by (ends xs x) =
+          rw (last-end xs x, butlast-end xs x, open-end xs x, ne-eqb (length (xs ++ x ∷ [])) 0 (omega (arith, length-end xs x))) (sym (ups-end xs x))
+
 -- ---- an 02 joins the years kept
 
 record YearFits (ys : List WorkedYear) (y : Year) : Type 0 where
@@ -136,6 +150,7 @@ year-kept s ys y h =
       april = ap aprilOf (sym (last-end ys (newYear y)));
       revaluation = ap revaluationOf (sym (last-end ys (newYear y)));
       pension = pension-now s ys h ∙ ap (λ (zs : List WorkedYear). pensionOf zs (ownAggregates zs)) (sym (butlast-end ys (newYear y)));
+      ups = ups-now s ys h ∙ ap (upsFrom 0) (sym (butlast-end ys (newYear y)));
       held = held-none;
       posts = sym (open-end ys (newYear y));
     }
@@ -204,6 +219,7 @@ module _ (ys : List WorkedYear) (x : Post) where
           april = h .april ∙ sym (add-last aprilOf (λ z. refl));
           revaluation = h .revaluation ∙ sym (add-last revaluationOf (λ z. refl));
           pension = h .pension ∙ ap (λ (zs : List WorkedYear). pensionOf zs (ownAggregates zs)) (sym add-butlast);
+          ups = h .ups ∙ ap (upsFrom 0) (sym add-butlast);
           held = held-joined (s .posts) x (h .held) accepted;
           posts = posts-joined (s .posts) x (h .held) accepted ∙ ap (λ (l : List Post). l ++ x ∷ []) (h .posts) ∙ sym (add-posts some-year);
         }
@@ -229,18 +245,19 @@ pension-limit : (ys : List WorkedYear) → All GoodYear ys → length ys ≤ mos
 unfolding pensionOf ceiling
 pension-limit ys g few = le-trans (pension-ceiling 0 0 ys g (omega arith)) (ceiling-fits (0 + length ys) (omega arith))
 
--- those of the last year, and of the pension before it
+-- those of the last year, of the pension before it, and of its upward roundings
 record LastBounds (ys : List WorkedYear) : Type 0 where
   april : aprilOf (lastOf ys) ≤ 2100
   revaluation : revaluationOf (lastOf ys) ≤ highestRevaluation
   pension : pensionOf (allButLast ys) (ownAggregates (allButLast ys)) ≤ 2 ^ 50
+  ups : upsFrom 0 (allButLast ys) ≤ upsOfYears
 
 last-bounds : (ys : List WorkedYear) → All GoodYear ys → length ys ≤ mostYears → LastBounds ys
-unfolding allButLast pensionOf pensionFrom lastOf
+unfolding allButLast pensionOf pensionFrom upsFrom lastOf
 last-bounds ys g few = by (ended ys) g few
   where
     by : {l : List WorkedYear} → Ended l → All GoodYear l → length l ≤ mostYears → LastBounds l
-    by empty g few = record { april = omega arith; revaluation = omega arith; pension = omega arith }
+    by empty g few = record { april = omega arith; revaluation = omega arith; pension = omega arith; ups = omega arith }
     by (ends zs z) g few =
         let r = all-init GoodYear zs z g in
         let y = year-good (z .year) (r .1 .stands) in
@@ -248,6 +265,7 @@ last-bounds ys g few = by (ended ys) g few
           april = rw (last-end zs z) (y .april-to);
           revaluation = rw (last-end zs z) (y .revaluation);
           pension = rw (butlast-end zs z) (pension-limit zs (r .0) (omega (arith, length-end zs z)));
+          ups = rw (butlast-end zs z) (omega (arith, length-end zs z, upsFrom-most 0 zs));
         }
 
 pub years-bounds : (s : YearsState) (ys : List WorkedYear) → HoldsYears s ys → GoodYears ys → YearsBounds s
@@ -259,5 +277,7 @@ years-bounds s ys h g =
       revaluation = rw (h .revaluation) (l .revaluation);
       pension = rw (h .pension) (l .pension);
       now = le-trans (le-of-eq (pension-now s ys h)) (pension-limit ys (g .each) (g .few));
+      ups = rw (h .ups) (l .ups);
+      upsNow = omega (arith, ups-now s ys h, upsFrom-most 0 ys, g .few);
       posts = h .held;
     }

@@ -4,21 +4,23 @@ use mathlib.Core.Bool.{_&&_, _||_, cond}
 use lib.Dec.{ltb, eqb}
 use Rattle.measures.specs.Refusals.{unless}
 use Rattle.measures.specs.Tries.{tried}
+use Rattle.measures.specs.Rounding.{upward}
 use Rattle.posts.specs.declared.Post.{Post}
-use Rattle.posts.specs.Posts.{aggregatePay}
+use Rattle.posts.specs.Posts.{aggregatePay, aggregateWay}
 use Rattle.posts.specs.Refusals.{postRefusal}
 use Rattle.posts.specs.Year.{noPosts, postsOf, Held, joinedBy}
 use Rattle.benefits.specs.Limits.{highestRevaluation}
-use Rattle.benefits.specs.Steps.{afterYear}
+use Rattle.benefits.specs.Steps.{afterYear, afterYearUps}
 use Rattle.frames.specs.declared.Year.{Year}
 use Rattle.frames.specs.Limits.{yearStands}
 use Rattle.rules.specs.Rules.{mostYears}
+use Rattle.rules.specs.Amounts.{upsOfYears}
 use Rattle.years.specs.declared.YearsState.{YearsState}
 use Rattle.years.specs.declared.YearsTaken.{YearsTaken}
 
 -- no year yet
 abbrev pub noYears : YearsState
-noYears = record { count = 0; april = 0; revaluation = 0; pension = record { 0 = 0 }; posts = noPosts }
+noYears = record { count = 0; april = 0; revaluation = 0; pension = record { 0 = 0 }; ups = 0; posts = noPosts }
 
 -- a year after those held: 6
 unfoldable pub yearFields : YearsState → Year → ℕ
@@ -32,15 +34,35 @@ postFields s x = postRefusal (postsOf (s .posts)) x
 unfoldable pub pensionNow : YearsState → ℕ
 pensionNow s = cond (eqb (s .count) 0) 0 (afterYear (s .pension .0) (s .revaluation) (aggregatePay (postsOf (s .posts))))
 
+-- the upward roundings with those of the year that is open
+unfoldable pub upsNow : YearsState → ℕ
+upsNow s =
+    cond (eqb (s .count) 0) 0
+    (s .ups + (upward (aggregateWay (postsOf (s .posts))) + afterYearUps (s .pension .0) (s .revaluation) (aggregatePay (postsOf (s .posts)))))
+
 -- by an 02: the year that was open is counted, and a year without posts is open
 unfoldable pub withYear : YearsState → Year → YearsState
 withYear s y =
-    record { count = s .count + 1; april = y .april; revaluation = y .revaluation; pension = record { 0 = pensionNow s }; posts = noPosts }
+    record {
+      count = s .count + 1;
+      april = y .april;
+      revaluation = y .revaluation;
+      pension = record { 0 = pensionNow s };
+      ups = upsNow s;
+      posts = noPosts;
+    }
 
 -- by an 03: the post joins the year that is open
 unfoldable pub withPost : YearsState → Post → YearsState
 withPost s x =
-    record { count = s .count; april = s .april; revaluation = s .revaluation; pension = s .pension; posts = joinedBy (s .posts) x }
+    record {
+      count = s .count;
+      april = s .april;
+      revaluation = s .revaluation;
+      pension = s .pension;
+      ups = s .ups;
+      posts = joinedBy (s .posts) x;
+    }
 
 -- an 02 taken: refused, the years as they were
 unfoldable pub yearTaken : YearsState → Year → YearsTaken
@@ -57,4 +79,6 @@ pub record YearsBounds (s : YearsState) : Type 0 where
   pub revaluation : s .revaluation ≤ highestRevaluation
   pub pension : s .pension .0 ≤ 2 ^ 50
   pub now : pensionNow s ≤ 2 ^ 50
+  pub ups : s .ups ≤ upsOfYears
+  pub upsNow : upsNow s ≤ upsOfYears
   pub posts : Held (s .posts)

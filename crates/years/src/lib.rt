@@ -2,21 +2,25 @@
 use benefits::after_year;
 use frames::Year;
 use frames::year_stands;
+use measures::Counted;
 use measures::Pence;
+use measures::upward;
 use posts::Post;
 use posts::YearPosts;
 ghost use mathlib.Core.Path.{_≡_};
-ghost use Rattle.years.specs.Years.{noYears, yearFields, pensionNow, yearTaken, postTaken, YearsBounds};
+ghost use Rattle.years.specs.Years.{noYears, yearFields, pensionNow, upsNow, yearTaken, postTaken, YearsBounds};
 
 // The years that a case has at most.
 const MOST_YEARS: u64 = 50;
 
-// The years so far: how many, the April year and the revaluation of the last, the pension before the last, and the posts of the last.
+// The years so far: how many, the April year and the revaluation of the last, the pension before the last with the count of
+// its upward roundings, and the posts of the last.
 pub struct YearsState {
     count: u64,
     april: u64,
     revaluation: u64,
     pension: Pence,
+    ups: u64,
     posts: YearPosts,
 }
 
@@ -37,6 +41,7 @@ impl YearsState {
             april: 0,
             revaluation: 0,
             pension: Pence(0),
+            ups: 0,
             posts,
         }
     }
@@ -61,16 +66,23 @@ impl YearsState {
         0
     }
 
-    // The 2015 pension of the years, the last among them.
-    pub fn pension(self) -> Pence
+    // The 2015 pension of the years, the last among them, and how many of their roundings went up.
+    pub fn pension(self) -> Counted
         requires { ⌜ YearsBounds self ⌝ }
-        ensures { λ r. ⌜ r .0 ≡ pensionNow self ⌝ }
+        ensures { λ r. ⌜ (r .amount .0 ≡ pensionNow self) × (r .ups ≡ upsNow self) ⌝ }
     {
         if self.count == 0 {
-            return Pence(0);
+            return Counted {
+                amount: Pence(0),
+                ups: 0,
+            };
         }
         let work = self.posts.allocate();
-        after_year(self.pension, self.revaluation, work.aggregate)
+        let way = work.way;
+        let after = after_year(self.pension, self.revaluation, work.aggregate);
+        let amount = after.amount;
+        let ups = self.ups + upward(way) + after.ups;
+        Counted { amount, ups }
     }
 
     // An 02 taken: the last year is counted, and a year without posts is open.
@@ -85,13 +97,15 @@ impl YearsState {
                 refusal,
             };
         }
-        let pension = self.pension();
+        let worked = self.pension();
+        let pension = worked.amount;
         let posts = YearPosts::none();
         let years = YearsState {
             count: self.count + 1,
             april: y.april,
             revaluation: y.revaluation,
             pension,
+            ups: worked.ups,
             posts,
         };
         YearsTaken { years, refusal: 0 }
@@ -110,6 +124,7 @@ impl YearsState {
             april: self.april,
             revaluation: self.revaluation,
             pension,
+            ups: self.ups,
             posts,
         };
         YearsTaken {

@@ -1,5 +1,5 @@
--- `averages::averaged` meets its contract: the sum by three, rounded.
-use Rattle.averages.specs.Averages.{average, averagePay, averaged}
+-- `averages::averaged` meets its contract: the sum by three, rounded, and whether that went up.
+use Rattle.averages.specs.Averages.{average, averagePay, averageWay, averaged}
 use borrow.Author.Needs.{needs}
 use Rattle.averages.proofs.averaged.Statement.{statement}
 use Rattle.averages.proofs.averaged.Tie as tie
@@ -10,9 +10,14 @@ best-three-requires c κs = search needs
 rounded-requires : tie.Need-rounded-requires
 rounded-requires c κs = search needs
 
+upward-requires : tie.Need-upward-requires
+upward-requires c κs = search needs
+
 returns : tie.Need-returns
-unfolding averaged averagePay average
-returns c = rw (← (c .before .best-three .ensures), ← (c .rounded .ensures))
+unfolding averaged averagePay averageWay average
+returns c =
+    let average = c .before in
+    rw (c .upward .ensures, ← (average .before .best-three .ensures), ← (average .rounded .ensures .0), ← (average .rounded .ensures .1))
 
 pub averaged-spec : {M : Type 1} → statement M
-averaged-spec = tie.close (tie.spec best-three-requires rounded-requires returns)
+averaged-spec = tie.close (tie.spec best-three-requires rounded-requires upward-requires returns)

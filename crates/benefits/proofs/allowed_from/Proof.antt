@@ -3,7 +3,7 @@ use Prim.Native.Nat.{ℕ, _≤_}
 use native.Mathlib.Omega.{arith}
 use borrow.Author.Needs.{needs}
 use Rattle.benefits.specs.Limits.{highestAllowance}
-use Rattle.benefits.specs.Steps.{allowedFrom}
+use Rattle.benefits.specs.Steps.{allowedFrom, allowedFromWay}
 use Rattle.benefits.proofs.Highest.{of-year}
 use Rattle.benefits.proofs.allowed_from.Statement.{statement}
 use Rattle.benefits.proofs.allowed_from.Tie as tie
@@ -21,15 +21,21 @@ raised-requires c κs =
     (omega (arith, s .pre .1), rw (c .allowance-in .ensures) (of-year (λ (a : ℕ). a ≤ highestAllowance) (s .args .year) (b .allowance3) (b .allowance2) (b .allowance1)))
 
 returns : tie.Need-returns
-unfolding allowedFrom
-returns c = simp (← (c .before .before .before .controlled .ensures), c .before .before .if1 .taken, ← (c .raised .ensures), ← (c .before .allowance-in .ensures))
+unfolding allowedFrom allowedFromWay
+returns c =
+    let test = c .before .before .before .controlled in (
+      simp (← (test .ensures), c .before .before .if1 .taken, c .raised .ensures .0, c .before .allowance-in .ensures),
+      simp (← (test .ensures), c .before .before .if1 .taken, c .raised .ensures .1, c .before .allowance-in .ensures),
+    )
 
 pay-in-requires : tie.Need-pay-in-requires
 pay-in-requires c κs = search needs
 
 returns-2 : tie.Need-returns-2
-unfolding allowedFrom
-returns-2 c = simp (← (c .before .before .controlled .ensures), c .before .if1 .left, ← (c .pay-in .ensures))
+unfolding allowedFrom allowedFromWay
+returns-2 c =
+    let test = c .before .before .controlled in
+    (simp (← (test .ensures), c .before .if1 .left, c .pay-in .ensures), simp (← (test .ensures), c .before .if1 .left))
 
 pub allowed-from-spec : {M : Type 1} → statement M
 allowed-from-spec =

@@ -21,7 +21,9 @@ charge-requires c κs = accepted-final-pay (c .before .before .args .f) (sym (c 
 
 returns-2 : tie.Need-returns-2
 unfolding chargeAnswer answerWith
-returns-2 c = answered _ _ _ (simp (← (c .before .before .final-pay-refusal .ensures), c .before .if1 .left, ← (c .charge .ensures)))
+returns-2 c =
+    let due = c .before in
+    answered _ _ _ (simp (← (due .before .before .final-pay-refusal .ensures), due .before .if1 .left, ← (due .charge .ensures .0)))
 
 pub charge-call-spec : {M : Type 1} → statement M
 charge-call-spec =

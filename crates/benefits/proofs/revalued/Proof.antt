@@ -1,7 +1,8 @@
 -- `benefits::revalued` meets its contract: the product fits, and measures rounds it.
+use mathlib.Core.Path.{_∙_}
 use native.Mathlib.Omega.{arith}
 use borrow.Author.Needs.{needs}
-use Rattle.benefits.specs.Steps.{revalued}
+use Rattle.benefits.specs.Steps.{revalued, revaluedWay}
 use Rattle.benefits.proofs.Monotone.{rise}
 use Rattle.benefits.proofs.revalued.Statement.{statement}
 use Rattle.benefits.proofs.revalued.Tie as tie
@@ -12,9 +13,12 @@ add-scaled c = search needs
 scaled-requires : tie.Need-scaled-requires
 scaled-requires c κs = omega (arith, rise 10000 (c .pre .0) (c .pre .1))
 
+in-pence-requires : tie.Need-in-pence-requires
+in-pence-requires c κs = search needs
+
 returns : tie.Need-returns
-unfolding revalued
-returns c = c .scaled .ensures
+unfolding revalued revaluedWay
+returns c = (c .in-pence .ensures .0 ∙ c .before .scaled .ensures .0, c .in-pence .ensures .1 ∙ c .before .scaled .ensures .1)
 
 pub revalued-spec : {M : Type 1} → statement M
-revalued-spec = tie.close (tie.spec add-scaled scaled-requires returns)
+revalued-spec = tie.close (tie.spec add-scaled scaled-requires in-pence-requires returns)

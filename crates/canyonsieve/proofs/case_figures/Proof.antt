@@ -13,11 +13,11 @@ enum-known-outcome-2 c = search needs
 
 returns : tie.Need-returns
 unfolding numberOf lineOf amountsGiven
-returns c = rw (c .before .outcome .given .1) (record { refusal = refl; line = refl; net2015 = refl; net1995 = refl; netLumpSum = refl; charge = refl })
+returns c = rw (c .before .outcome .given .1) (record { refusal = refl; line = refl; net2015 = refl; net1995 = refl; netLumpSum = refl; charge = refl; roundedUp = refl })
 
 returns-2 : tie.Need-returns-2
 unfolding numberOf lineOf amountsGiven
-returns-2 c = rw (c .before .outcome2 .given .1) (record { refusal = refl; line = refl; net2015 = refl; net1995 = refl; netLumpSum = refl; charge = refl })
+returns-2 c = rw (c .before .outcome2 .given .1) (record { refusal = refl; line = refl; net2015 = refl; net1995 = refl; netLumpSum = refl; charge = refl; roundedUp = refl })
 
 pub case-figures-spec : {M : Type 1} → statement M
 case-figures-spec = tie.close (tie.spec enum-known-outcome enum-known-outcome-2 returns returns-2)

@@ -26,25 +26,29 @@ bounds c = accepted-change _ _ (sym (c .before .change-refusal .ensures) ∙ c .
 old-excess-requires : tie.Need-old-excess-requires
 old-excess-requires c κs = bounds c
 
+new-excess-requires : tie.Need-new-excess-requires
+new-excess-requires c κs = bounds (c .before)
+
 charge-in-requires : tie.Need-charge-in-requires
 charge-in-requires c κs =
-    let b = bounds (c .before) in
-    (b .finalPay, omega (arith, c .old-excess .ensures, old-excess-limit _ _ b))
-
-new-excess-requires : tie.Need-new-excess-requires
-new-excess-requires c κs = bounds (c .before .before)
+    let o = c .before in
+    let b = bounds (o .before) in
+    (b .finalPay, omega (arith, o .old-excess .ensures .0, old-excess-limit _ _ b))
 
 charge-in-requires-2 : tie.Need-charge-in-requires-2
 charge-in-requires-2 c κs =
-    let b = bounds (c .before .before .before) in
-    (b .finalPay, omega (arith, c .new-excess .ensures, new-excess-limit _ _ b))
+    let n = c .before .before in
+    let b = bounds (n .before .before) in
+    (b .finalPay, omega (arith, n .new-excess .ensures .0, new-excess-limit _ _ b))
 
 returns-2 : tie.Need-returns-2
 unfolding changeAnswer answerOfTwo oldCharge newCharge
 returns-2 c =
-    let n = c .before in
-    let o = n .before .before in
-    answered-two _ _ _ _ (simp (← (o .before .before .change-refusal .ensures), o .before .if1 .left, ← (o .old-excess .ensures), ← (n .before .charge-in .ensures), ← (n .new-excess .ensures), ← (c .charge-in2 .ensures)))
+    let new = c .before in
+    let old = new .before .before in
+    let n = old .before in
+    let o = n .before in
+    answered-two _ _ _ _ (simp (← (o .before .before .change-refusal .ensures), o .before .if1 .left, ← (o .old-excess .ensures .0), ← (old .charge-in .ensures .0), ← (n .new-excess .ensures .0), ← (new .charge-in2 .ensures .0)))
 
 pub change-call-spec : {M : Type 1} → statement M
 change-call-spec =
@@ -53,7 +57,7 @@ change-call-spec =
     change-refusal-requires
     returns
     old-excess-requires
-    charge-in-requires
     new-excess-requires
+    charge-in-requires
     charge-in-requires-2
     returns-2)

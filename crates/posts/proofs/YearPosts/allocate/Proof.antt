@@ -1,4 +1,4 @@
--- `posts::YearPosts::allocate` meets its contract: the invariant is `Upto`, the parts and the pay of the posts passed.
+-- `posts::YearPosts::allocate` meets its contract: the invariant is `Upto`, the parts, the pay and its way of the posts passed.
 use native.Mathlib.Nat.{le-trans, le-of-eq}
 use Prim.Native.Nat.{_-_}
 use Rattle.posts.proofs.Standing.{place-stands, minutes-few, minutes-some}
@@ -9,10 +9,10 @@ use Rattle.posts.proofs.YearPosts.allocate.Statement.{statement}
 use Rattle.posts.proofs.YearPosts.allocate.Tie as tie
 
 abbrev Inv-loop : tie.InvT-loop
-Inv-loop self n total parts₀ aggregate₀ i₀ parts aggregate i = Upto self parts (aggregate .0) i
+Inv-loop self n total parts₀ aggregate₀ way₀ i₀ parts aggregate way i = Upto self parts (aggregate .0) way i
 
 abbrev μ-loop : tie.MeasureT-loop
-μ-loop self n total parts₀ aggregate₀ i₀ parts aggregate i = self .count - i
+μ-loop self n total parts₀ aggregate₀ way₀ i₀ parts aggregate way i = self .count - i
 
 loop-holds : tie.Need-loop-holds Inv-loop μ-loop
 loop-holds c = upto-start (c .before .args .t1) (c .before .pre)
@@ -47,11 +47,14 @@ add-aggregate : tie.Need-add-aggregate Inv-loop μ-loop
 add-aggregate c =
     let k = c .before .before in
     let l = k .before .before .before .before in
-    omega (arith, l .before .before .pre .few, l .loop .inv .most, k .pay-for .ensures .1)
+    omega (arith, l .before .before .pre .few, l .loop .inv .most, k .pay-for .ensures .2)
+
+either-way-requires : tie.Need-either-way-requires Inv-loop μ-loop
+either-way-requires c κs = search needs
 
 add-i : tie.Need-add-i Inv-loop μ-loop
 add-i c =
-    let k = c .before .before in
+    let k = c .before .before .before in
     let l = k .before .before .before .before in
     omega (arith, l .before .before .pre .few)
 
@@ -60,17 +63,17 @@ loop-less c = search needs
 
 loop-again : tie.Need-loop-again Inv-loop μ-loop
 loop-again c =
-    let k = c .before .before in
+    let k = c .before .before .before in
     let l = k .before .before .before .before in
     let s = l .before .before in
-    upto-turn (s .args .t1) (s .pre) _ _ (l .loop .i) _ _ (l .loop .inv) (k .before .before .before .loop-test .taken)
-    (k .before .before .part-of .ensures) (k .pay-for .ensures .0) (k .pay-for .ensures .1)
+    upto-turn (s .args .t1) (s .pre) _ _ _ (l .loop .i) _ _ _ _ (l .loop .inv) (k .before .before .before .loop-test .taken)
+    (k .before .before .part-of .ensures) (k .pay-for .ensures .0) (k .pay-for .ensures .2) (k .pay-for .ensures .1) (c .either-way .ensures)
 
 returns : tie.Need-returns Inv-loop μ-loop
 returns c =
     let l = c .before in
-    let e = upto-end (l .before .before .args .t1) (l .before .before .pre) _ _ (l .loop .i) (l .loop .inv) (c .loop-test .left) in
-    record { parts = e .0; aggregate = e .1 }
+    let e = upto-end (l .before .before .args .t1) (l .before .before .pre) _ _ _ (l .loop .i) (l .loop .inv) (c .loop-test .left) in
+    record { parts = e .0; aggregate = e .1; way = e .2 }
 
 pub allocate-spec : {M : Type 1} → statement M
 allocate-spec =
@@ -86,6 +89,7 @@ allocate-spec =
     mul-parts
     array-write-parts
     add-aggregate
+    either-way-requires
     add-i
     loop-less
     loop-again

@@ -1,10 +1,11 @@
 -- `posts::year::pay_for` meets its contract.
-use mathlib.Core.Path.{_∙_, ap}
+use mathlib.Core.Path.{sym, _∙_, ap}
 use Prim.Native.Nat.{_*_}
 use native.Mathlib.Nat.{le-trans, le-of-eq}
 use native.Mathlib.Omega.{arith}
+use borrow.Author.Needs.{needs}
 use Rattle.measures.specs.Limits.{highestPay}
-use Rattle.measures.specs.Rounding.{rounded}
+use Rattle.measures.specs.Rounding.{rounded, way}
 use Rattle.measures.proofs.Products.{product}
 use Rattle.posts.specs.Limits.{mostParts}
 use Rattle.posts.specs.Posts.{p}
@@ -19,21 +20,30 @@ returns : tie.Need-returns
 returns c =
     let s = c .before .before .before in
     let x = standing (s .args .x) (s .pre .0) in
-    (pay-full (s .args .x) (s .args .part) (s .args .total .0) (s .pre .0) (s .pre .2) (c .before .if1 .taken ∙ c .before .before .in-parts .ensures), x .paid)
+    let e = pay-full (s .args .x) (s .args .part) (s .args .total .0) (s .pre .0) (s .pre .2) (c .if1 .taken ∙ c .before .before .in-parts .ensures) in
+    (sym (e .0), sym (e .1), x .paid)
 
 scaled-requires : tie.Need-scaled-requires
 scaled-requires c κs =
-    let s = c .before .before in
+    let s = c .before .before .before in
     let few = le-trans (s .pre .1) (part-fits (s .args .x) (s .args .part) (s .args .total .0) (s .pre .0) (s .pre .2) (s .pre .3)) in (
-      omega (arith, c .before .in-parts .ensures, parts-some (s .args .x) (s .args .part) (s .args .total .0) (s .pre .0) (s .pre .2)),
+      omega (arith, c .before .before .in-parts .ensures, parts-some (s .args .x) (s .args .part) (s .args .total .0) (s .pre .0) (s .pre .2)),
       product mostParts highestPay few (standing (s .args .x) (s .pre .0) .paid) tt .fits,
     )
 
+in-pence-requires : tie.Need-in-pence-requires
+in-pence-requires c κs = search needs
+
 returns-2 : tie.Need-returns-2
 returns-2 c =
-    let s = c .before .before .before in
-    let e = c .scaled .ensures ∙ ap (rounded (s .args .part * p (s .args .x))) (c .before .before .in-parts .ensures) in
-    (e, le-trans (le-of-eq e) (pay-most-for (s .args .x) (s .args .part) (s .args .total .0) (s .pre .0) (s .pre .2) (s .pre .1)))
+    let value = c .before in
+    let s = value .before .before .before .before in
+    let all = value .before .before .before .in-parts .ensures in
+    let e = c .in-pence .ensures .0 ∙ value .scaled .ensures .0 ∙ ap (rounded (s .args .part * p (s .args .x))) all in (
+      e,
+      c .in-pence .ensures .1 ∙ value .scaled .ensures .1 ∙ ap (way (s .args .part * p (s .args .x))) all,
+      le-trans (le-of-eq e) (pay-most-for (s .args .x) (s .args .part) (s .args .total .0) (s .pre .0) (s .pre .2) (s .pre .1)),
+    )
 
 pub pay-for-spec : {M : Type 1} → statement M
-pay-for-spec = tie.close (tie.spec in-parts-requires returns scaled-requires returns-2)
+pay-for-spec = tie.close (tie.spec in-parts-requires returns scaled-requires in-pence-requires returns-2)

@@ -25,14 +25,14 @@ with-number-requires-4 c κs = search needs
 with-number-requires-5 : tie.Need-with-number-requires-5
 with-number-requires-5 c κs = search needs
 
+with-number-requires-6 : tie.Need-with-number-requires-6
+with-number-requires-6 c κs = search needs
+
 with-end-requires : tie.Need-with-end-requires
 with-end-requires c κs = search needs
 
 enum-known-outcome-2 : tie.Need-enum-known-outcome-2
 enum-known-outcome-2 c = search needs
-
-with-number-requires-6 : tie.Need-with-number-requires-6
-with-number-requires-6 c κs = search needs
 
 with-number-requires-7 : tie.Need-with-number-requires-7
 with-number-requires-7 c κs = search needs
@@ -40,20 +40,24 @@ with-number-requires-7 c κs = search needs
 with-number-requires-8 : tie.Need-with-number-requires-8
 with-number-requires-8 c κs = search needs
 
+with-number-requires-9 : tie.Need-with-number-requires-9
+with-number-requires-9 c κs = search needs
+
 with-end-requires-2 : tie.Need-with-end-requires-2
 with-end-requires-2 c κs = search needs
 
 returns : tie.Need-returns
 unfolding printedOf
 returns c =
-    let charge = c .before in
+    let ups = c .before in
+    let charge = ups .before in
     let lump = charge .before in
     let net1995 = lump .before in
     let net2015 = net1995 .before in
     let kind = net2015 .before in
     let pensions = extended-twice (extended-twice (kind .with-number .ensures) (net2015 .with-number2 .ensures)) (net1995 .with-number3 .ensures) in
     let amounts = extended-twice (extended-twice pensions (lump .with-number4 .ensures)) (charge .with-number5 .ensures) in
-    let whole = extended-twice amounts (c .with-end .ensures) in
+    let whole = extended-twice (extended-twice amounts (ups .with-number6 .ensures)) (c .with-end .ensures) in
     rw (kind .before .before .outcome .given .1) record {
       count = whole .count ∙ simp (length-append, length-digits);
       bytes = whole .bytes;
@@ -67,7 +71,7 @@ returns-2 c =
     let number = line .before in
     let kind = number .before in
     let whole =
-    extended-twice (extended-twice (extended-twice (kind .with-number6 .ensures) (number .with-number7 .ensures)) (line .with-number8 .ensures))
+    extended-twice (extended-twice (extended-twice (kind .with-number7 .ensures) (number .with-number8 .ensures)) (line .with-number9 .ensures))
     (c .with-end2 .ensures) in
     rw (kind .before .before .outcome2 .given .1) record {
       count = whole .count ∙ simp (length-append, length-digits);
@@ -85,11 +89,12 @@ printed-spec =
     with-number-requires-3
     with-number-requires-4
     with-number-requires-5
+    with-number-requires-6
     with-end-requires
     enum-known-outcome-2
-    with-number-requires-6
     with-number-requires-7
     with-number-requires-8
+    with-number-requires-9
     with-end-requires-2
     returns
     returns-2)

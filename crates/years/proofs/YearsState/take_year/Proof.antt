@@ -19,16 +19,16 @@ pension-requires c κs = search needs
 none-requires : tie.Need-none-requires
 none-requires c κs = search needs
 
-add-t8 : tie.Need-add-t8
-add-t8 c = search needs
+add-t9 : tie.Need-add-t9
+add-t9 c = search needs
 
 returns-2 : tie.Need-returns-2
 unfolding yearTaken tried withYear
 returns-2 c =
-    let r = c .before .before in
-    rw (← (r .before .before .refusal-of .ensures), r .before .if1 .left, ← (r .pension .ensures), c .before .none .ensures)
+    let r = c .before .before .before in
+    rw (← (r .before .before .refusal-of .ensures), r .before .if1 .left, ← (r .pension .ensures .0), ← (r .pension .ensures .1), c .before .none .ensures)
 
 pub take-year-spec : {M : Type 1} → statement M
 take-year-spec =
     tie.close
-    (tie.spec refusal-of-requires returns pension-requires none-requires add-t8 returns-2)
+    (tie.spec refusal-of-requires returns pension-requires none-requires add-t9 returns-2)
