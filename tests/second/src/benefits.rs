@@ -1,31 +1,37 @@
 //! The steps on amounts: years, final pay, reduction, debit, charge and abatement.
 
-use crate::wide::rounded;
+use crate::wide::Rounded;
 use crate::{unless, LARGEST_PAY};
 
 /// Service days that give a whole pay as 1995 pension: 80 years of 365 days.
-const DAYS_TO_A_PAY: u128 = 29_200;
+const DAYS_TO_A_PAY: u64 = 29_200;
 
 /// The largest amount of the abatement call, in pence.
 const LARGEST_AMOUNT: u64 = 1_000_000_000_000;
 
+/// A pension revalued by ten-thousandths.
+pub fn revalued(pension: u64, revaluation: u64) -> Rounded {
+    Rounded::of_product(pension, 10_000 + revaluation, 10_000)
+}
+
+/// What a year's aggregate adds to the 2015 pension.
+pub fn accrued(aggregate: u64) -> Rounded {
+    Rounded::of(aggregate.into(), 54)
+}
+
 /// The 2015 pension after one more year.
 pub fn after_year(pension: u64, revaluation: u64, aggregate: u64) -> u64 {
-    let revalued = rounded(
-        u128::from(pension) * u128::from(10_000 + revaluation),
-        10_000,
-    );
-    revalued + rounded(aggregate.into(), 54)
+    revalued(pension, revaluation).number + accrued(aggregate).number
 }
 
 /// An amount reduced by a factor in thousandths.
-pub fn reduced(amount: u64, factor: u64) -> u64 {
-    rounded(u128::from(amount) * u128::from(factor), 1_000)
+pub fn reduced(amount: u64, factor: u64) -> Rounded {
+    Rounded::of_product(amount, factor, 1_000)
 }
 
 /// The pension debit of a pot by a factor in hundredths.
-pub fn pension_debit(pot: u64, factor: u64) -> u64 {
-    rounded(u128::from(pot) * 100, factor.into())
+pub fn pension_debit(pot: u64, factor: u64) -> Rounded {
+    Rounded::of_product(pot, 100, factor)
 }
 
 /// Pays, allowances, controls, service days and factor of the 1995 Section.
@@ -85,25 +91,40 @@ impl FinalPay {
     }
 
     /// The pension of a year's pay, before any reduction.
-    pub fn pension(&self, year: usize) -> u64 {
+    pub fn pension(&self, year: usize) -> Rounded {
         self.by_days(self.pay(year))
     }
 
-    fn by_days(&self, pay: u64) -> u64 {
-        rounded(u128::from(pay) * u128::from(self.days), DAYS_TO_A_PAY)
+    /// The pension of an amount for the service days.
+    pub fn by_days(&self, amount: u64) -> Rounded {
+        Rounded::of_product(amount, self.days, DAYS_TO_A_PAY)
     }
 
-    /// The allowed pay of year 3, 2 or 1.
-    pub fn allowed(&self, year: usize) -> u64 {
+    /// An amount with the allowance of year 3, 2 or 1.
+    pub fn raised(&self, year: usize, amount: u64) -> Rounded {
+        Rounded::of_product(amount, 1_000 + self.allowances[3 - year], 1_000)
+    }
+
+    /// The rise to year 3, 2 or 1; none is worked where the year is not controlled.
+    pub fn rise(&self, year: usize) -> Option<Rounded> {
         if !self.controlled(year) {
-            return self.pay(year);
+            return None;
         }
         let base = match year {
             3 => self.pay(4),
             _ => self.pay(year + 1).min(self.allowed(year + 1)),
         };
-        let risen = 1_000 + self.allowances[3 - year];
-        rounded(u128::from(base) * u128::from(risen), 1_000)
+        Some(self.raised(year, base))
+    }
+
+    /// The allowed pay of year 3, 2 or 1.
+    pub fn allowed(&self, year: usize) -> u64 {
+        self.rise(year).map_or(self.pay(year), |rise| rise.number)
+    }
+
+    /// What the pay of a year has above its allowed pay.
+    pub fn excess(&self, year: usize) -> u64 {
+        self.pay(year).saturating_sub(self.allowed(year))
     }
 
     /// The employer's charge.
@@ -113,13 +134,18 @@ impl FinalPay {
 
     /// The charge if the pay of a year were the final pay.
     pub fn charge_for(&self, year: usize) -> u64 {
-        self.charge_from(self.pay(year).saturating_sub(self.allowed(year)))
+        self.charge_from(self.excess(year))
+    }
+
+    /// An excess pension by the factor, without its lump sum.
+    pub fn by_factor(&self, pension: u64) -> Rounded {
+        Rounded::of_product(pension, self.factor, 100)
     }
 
     /// The charge that an excess becomes.
     pub fn charge_from(&self, excess: u64) -> u64 {
-        let pension = self.by_days(excess);
-        rounded(u128::from(pension) * u128::from(self.factor), 100) + 3 * pension
+        let pension = self.by_days(excess).number;
+        self.by_factor(pension).number + 3 * pension
     }
 }
 

@@ -4,7 +4,9 @@ use crate::benefits::{after_year, pension_debit, reduced, FinalPay};
 use crate::calendar::{months_before, try_dates, SECTION_PENSION_AGES};
 use crate::frames::{frame, line_bytes, lines, Debit, Factor, Frame, Member, LARGEST_TEXT};
 use crate::posts::{aggregate, try_post, Post};
+use crate::roundings::{most_roundings, rounded_up};
 use crate::ten_pays::TenPays;
+use crate::wide::Rounded;
 use crate::{unless, LARGEST_PAY};
 
 /// The most years of a case.
@@ -46,6 +48,8 @@ pub struct Outcome {
     pub net_1995: u64,
     pub net_lump_sum: u64,
     pub charge: u64,
+    /// How many of the roundings on the way went up.
+    pub rounded_up: u64,
 }
 
 /// Refusal 5 of a member, then 28.
@@ -206,7 +210,7 @@ impl Case {
     pub fn benefit_debits(&self) -> Benefits {
         let of = |scheme: u64| {
             let debit = self.debits.iter().find(|debit| debit.scheme == scheme);
-            debit.map_or(0, |debit| pension_debit(debit.pot, debit.factor))
+            debit.map_or(0, |debit| pension_debit(debit.pot, debit.factor).number)
         };
         Benefits {
             pension_2015: of(0),
@@ -216,10 +220,10 @@ impl Case {
     }
 
     /// The 2015 pension before reduction, of one aggregate for each year.
-    pub fn pension_2015(&self, aggregates: &[u64]) -> u64 {
+    pub fn pension_2015(&self, aggregates: &[Rounded]) -> u64 {
         let years = self.years.iter().zip(aggregates);
-        years.fold(0, |pension, (year, &aggregate)| {
-            after_year(pension, year.revaluation, aggregate)
+        years.fold(0, |pension, (year, aggregate)| {
+            after_year(pension, year.revaluation, aggregate.number)
         })
     }
 
@@ -228,23 +232,28 @@ impl Case {
     fn section_pension(&self, final_year: usize) -> u64 {
         let of_1995 = self.final_pay.map(|pay| pay.pension(final_year));
         let of_2008 = self.ten_pays.map(|pays| pays.pension(final_year));
-        of_1995.or(of_2008).unwrap_or(0)
+        of_1995.or(of_2008).map_or(0, |pension| pension.number)
     }
 
-    /// Benefits after reduction, of a 2015 pension and of a final year of the section.
-    pub fn benefits(&self, pension_2015: u64, final_year: usize) -> Result<Benefits, u64> {
+    /// Benefits before reduction, of a 2015 pension and of a final year of the section.
+    pub fn unreduced_benefits(&self, pension_2015: u64, final_year: usize) -> Benefits {
         let pension = self.section_pension(final_year);
-        let mut benefits = Benefits {
+        Benefits {
             pension_2015,
             pension_1995: pension,
             lump_sum: self.lump_sum_of(pension),
-        };
+        }
+    }
+
+    /// The same after reduction.
+    pub fn benefits(&self, pension_2015: u64, final_year: usize) -> Result<Benefits, u64> {
+        let mut benefits = self.unreduced_benefits(pension_2015, final_year);
         if let Some(factor) = self.factor(0)? {
-            benefits.pension_2015 = reduced(benefits.pension_2015, factor.pension);
+            benefits.pension_2015 = reduced(benefits.pension_2015, factor.pension).number;
         }
         if let Some(factor) = self.factor(1)? {
-            benefits.pension_1995 = reduced(benefits.pension_1995, factor.pension);
-            benefits.lump_sum = reduced(benefits.lump_sum, factor.lump_sum);
+            benefits.pension_1995 = reduced(benefits.pension_1995, factor.pension).number;
+            benefits.lump_sum = reduced(benefits.lump_sum, factor.lump_sum).number;
         }
         Ok(benefits)
     }
@@ -258,7 +267,7 @@ impl Case {
     }
 
     /// The aggregate of each year by the posts step.
-    fn aggregates(&self) -> Vec<u64> {
+    pub fn aggregates(&self) -> Vec<Rounded> {
         self.years.iter().map(|y| aggregate(&y.posts)).collect()
     }
 
@@ -273,7 +282,7 @@ impl Case {
     }
 
     /// The same of one aggregate for each year and of a final year of the section.
-    pub fn close_with(&self, aggregates: &[u64], final_year: usize) -> Result<Outcome, u64> {
+    pub fn close_with(&self, aggregates: &[Rounded], final_year: usize) -> Result<Outcome, u64> {
         unless(self.member.is_some(), 4)?;
         unless(self.has_pays(), 12)?;
         let had = self.benefits(self.pension_2015(aggregates), final_year)?;
@@ -284,8 +293,16 @@ impl Case {
             net_1995: less(had.pension_1995, debits.pension_1995)?,
             net_lump_sum: less(had.lump_sum, debits.lump_sum)?,
             charge: self.final_pay.map_or(0, |pay| pay.charge_for(final_year)),
+            rounded_up: self.rounded_up(aggregates, final_year)?,
             ..Outcome::default()
         })
+    }
+
+    /// The count of its upward roundings.
+    fn rounded_up(&self, aggregates: &[Rounded], final_year: usize) -> Result<u64, u64> {
+        let list = self.roundings(aggregates, final_year)?;
+        assert!(list.len() <= most_roundings(self.section()));
+        Ok(rounded_up(&list))
     }
 }
 
@@ -318,8 +335,12 @@ pub fn case(text: &[u8]) -> Outcome {
 pub fn printed(outcome: &Outcome) -> Vec<u8> {
     let line = if outcome.refusal == 0 {
         format!(
-            "80{:016X}{:016X}{:016X}{:016X}\n",
-            outcome.net_2015, outcome.net_1995, outcome.net_lump_sum, outcome.charge
+            "80{:016X}{:016X}{:016X}{:016X}{:04X}\n",
+            outcome.net_2015,
+            outcome.net_1995,
+            outcome.net_lump_sum,
+            outcome.charge,
+            outcome.rounded_up
         )
     } else {
         format!("EE{:02X}{:04X}\n", outcome.refusal, outcome.line)

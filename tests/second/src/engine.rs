@@ -29,6 +29,7 @@ struct CaseOutcome {
     net_1995: u64,
     net_lump_sum: u64,
     charge: u64,
+    rounded_up: u64,
 }
 
 extern "C" {
@@ -175,5 +176,6 @@ pub fn case(text: &[u8]) -> Outcome {
         net_1995: given.net_1995,
         net_lump_sum: given.net_lump_sum,
         charge: given.charge,
+        rounded_up: given.rounded_up,
     }
 }

@@ -5,7 +5,7 @@ use crate::cases::{Case, Outcome};
 use crate::posts::{
     aggregate, aggregate_of, by_rate, filled, minutes_together, parts_of, parts_together, Post,
 };
-use crate::wide::rounded;
+use crate::wide::{rounded, Rounded, Way};
 use std::cmp::Reverse;
 
 #[derive(Clone, Copy, Debug, PartialEq, Eq)]
@@ -51,15 +51,21 @@ impl Mistake {
 pub fn closed(case: &Case, mistake: Mistake) -> Result<Outcome, u64> {
     let mut case = case.clone();
     let mut final_year = case.final_year();
+    let mut counted_apart = 0;
     match mistake {
         Mistake::MonthsDown => complete_month(&mut case),
         Mistake::LastYear => final_year = 1,
-        Mistake::FullRise => raise_full_pay(&mut case, final_year),
+        Mistake::FullRise => {
+            counted_apart = other_rises_up(&case, final_year);
+            raise_full_pay(&mut case, final_year);
+        }
         _ => {}
     }
     let years = case.years.iter();
-    let aggregates: Vec<u64> = years.map(|y| aggregate_with(mistake, &y.posts)).collect();
-    case.close_with(&aggregates, final_year)
+    let aggregates: Vec<Rounded> = years.map(|y| aggregate_with(mistake, &y.posts)).collect();
+    let mut given = case.close_with(&aggregates, final_year)?;
+    given.rounded_up += counted_apart;
+    Ok(given)
 }
 
 /// Puts retirement on the day on which the month of age then begun is over.
@@ -81,8 +87,19 @@ fn raise_full_pay(case: &mut Case, final_year: usize) {
     }
 }
 
+/// How many rises on full pay go up, of those to years that are controlled besides the final one: they
+/// are worked too, though without their control they are no longer counted.
+fn other_rises_up(case: &Case, final_year: usize) -> u64 {
+    let Some(given) = case.final_pay else {
+        return 0;
+    };
+    let others = (1..=3).filter(|&year| year != final_year && given.controlled(year));
+    let up = |year: &usize| given.raised(*year, given.pay(year + 1)).way == Way::Up;
+    others.filter(up).count() as u64
+}
+
 /// The aggregate of a year with a mistake. No post is cut beside a whole-time one.
-fn aggregate_with(mistake: Mistake, posts: &[Post]) -> u64 {
+fn aggregate_with(mistake: Mistake, posts: &[Post]) -> Rounded {
     if posts.is_empty() || posts.iter().any(Post::is_whole_time) {
         return aggregate(posts);
     }
@@ -98,9 +115,7 @@ fn aggregate_with(mistake: Mistake, posts: &[Post]) -> u64 {
         Mistake::ThreeDigits => {
             let shares = posts.iter().zip(parts_of(posts));
             let minutes = minutes_together(posts);
-            shares
-                .map(|(post, parts)| pay_by_proportion(post, parts, minutes))
-                .sum()
+            together(shares.map(|(post, parts)| pay_by_proportion(post, parts, minutes)))
         }
         _ => aggregate(posts),
     }
@@ -119,16 +134,27 @@ fn averaged_parts(posts: &[Post]) -> u64 {
     minutes_together(posts) * weeks / posts.len() as u64
 }
 
+/// The sum of numbers of which at most one was not whole, with the way of that one.
+fn together(numbers: impl Iterator<Item = Rounded>) -> Rounded {
+    numbers.fold(Rounded::whole(0), |sum, next| Rounded {
+        number: sum.number + next.number,
+        way: match next.way {
+            Way::Exact => sum.way,
+            way => way,
+        },
+    })
+}
+
 /// The pay of a post for its parts. That of a cut post is its part of a whole-time pay, which is its
 /// pay over its proportion of whole time in thousandths. At most one post is cut to some of its
 /// parts, so that each may be rounded.
-fn pay_by_proportion(post: &Post, parts: u64, minutes: u64) -> u64 {
+fn pay_by_proportion(post: &Post, parts: u64, minutes: u64) -> Rounded {
     if parts == post.contracted * minutes {
-        return post.pay;
+        return Rounded::whole(post.pay);
     }
     let week = u128::from(post.whole_time);
     let proportion = rounded(u128::from(post.contracted) * 1_000, week).max(1);
-    rounded(
+    Rounded::of(
         u128::from(post.pay) * u128::from(parts) * 1_000,
         u128::from(minutes) * week * u128::from(proportion),
     )

@@ -1,6 +1,6 @@
 //! The posts of a year: sorted by rate and filled in turn.
 
-use crate::wide::{rounded_wide, Wide};
+use crate::wide::{Rounded, Wide};
 use crate::{unless, LARGEST_PAY};
 
 /// The most posts of a year.
@@ -80,9 +80,9 @@ pub fn parts_of(posts: &[Post]) -> Vec<u64> {
 
 /// The sum of parts × p/(h × H) over all posts, rounded once. The fractions are brought to one
 /// divisor, H times the contracted minutes of all posts multiplied.
-pub fn aggregate_of(posts: &[Post], parts: &[u64]) -> u64 {
+pub fn aggregate_of(posts: &[Post], parts: &[u64]) -> Rounded {
     if posts.is_empty() {
-        return 0;
+        return Rounded::whole(0);
     }
     let mut number = Wide::new(0);
     let mut divisor = Wide::new(1);
@@ -91,11 +91,11 @@ pub fn aggregate_of(posts: &[Post], parts: &[u64]) -> u64 {
         number = number.times(post.contracted).plus(added);
         divisor = divisor.times(post.contracted);
     }
-    rounded_wide(number, divisor.times(minutes_together(posts)))
+    Rounded::of_wide(number, divisor.times(minutes_together(posts)))
 }
 
 /// The aggregate by the posts step.
-pub fn aggregate(posts: &[Post]) -> u64 {
+pub fn aggregate(posts: &[Post]) -> Rounded {
     aggregate_of(posts, &parts_of(posts))
 }
 
@@ -112,7 +112,7 @@ pub fn records(list: &[Post], places: &mut [u64]) -> (u64, u64) {
         Ok(()) => {
             let parts = parts_of(list);
             places[..parts.len()].copy_from_slice(&parts);
-            (0, aggregate_of(list, &parts))
+            (0, aggregate_of(list, &parts).number)
         }
         Err(refusal) => (refusal, 0),
     }

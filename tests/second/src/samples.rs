@@ -4,5 +4,6 @@ pub mod accepted;
 pub mod calls;
 pub mod damaged;
 pub mod employers;
+pub mod roundings;
 pub mod ten_pays;
 pub mod writing;

@@ -1,11 +1,11 @@
 //! The 2008 Section: ten pays and the best three consecutive years among them.
 
-use crate::wide::rounded;
+use crate::wide::Rounded;
 use crate::{unless, LARGEST_PAY};
 use std::ops::RangeInclusive;
 
 /// Service days that give a whole pay as 2008 pension: 60 years of 365 days.
-const DAYS_TO_A_PAY: u128 = 60 * 365;
+const DAYS_TO_A_PAY: u64 = 60 * 365;
 
 /// The most days of service.
 pub const MOST_DAYS: u64 = 16_425;
@@ -56,14 +56,14 @@ impl TenPays {
     }
 
     /// The rounded average of three years.
-    pub fn average(&self, last_year: usize) -> u64 {
-        rounded(self.sum(last_year).into(), 3)
+    pub fn average(&self, last_year: usize) -> Rounded {
+        Rounded::of(self.sum(last_year).into(), 3)
     }
 
     /// The pension of the average of three years, before any reduction.
-    pub fn pension(&self, last_year: usize) -> u64 {
-        let pay = u128::from(self.average(last_year));
-        rounded(pay * u128::from(self.days), DAYS_TO_A_PAY)
+    pub fn pension(&self, last_year: usize) -> Rounded {
+        let pay = self.average(last_year).number;
+        Rounded::of_product(pay, self.days, DAYS_TO_A_PAY)
     }
 }
 
@@ -97,8 +97,9 @@ mod tests {
         let mut random = Random::new(0x2008);
         for _ in 0..20_000 {
             let given = ten_pays(&mut random);
-            let averages = TenPays::last_years().map(|year| given.average(year));
-            assert_eq!(Some(given.average(given.best_year())), averages.max());
+            let average = |year| given.average(year).number;
+            let averages = TenPays::last_years().map(average);
+            assert_eq!(Some(average(given.best_year())), averages.max());
         }
     }
 }

@@ -141,8 +141,12 @@ fn abatements() {
 
 #[test]
 fn debits() {
-    assert_eq!(second::benefits::pension_debit(1_000_000, 2_020), 49_505);
-    // Final pay £40,000 for 7,300 days: pension £10,000, lump sum £30,000.
+    assert_eq!(
+        second::benefits::pension_debit(1_000_000, 2_020).number,
+        49_505
+    );
+    // Final pay £40,000 for 7,300 days: pension £10,000, lump sum £30,000. Of all the steps the debit
+    // alone, 49,504.95, goes up.
     let given = outcome(&[LATE_WITH_SECTION, FINAL_PAY, "0601000F424007E4"]);
     assert_eq!(
         given,
@@ -150,6 +154,7 @@ fn debits() {
             net_1995: 1_000_000 - 49_505,
             net_lump_sum: 3_000_000 - 148_515,
             charge: 3_433_600,
+            rounded_up: 1,
             ..Outcome::default()
         }
     );
@@ -157,7 +162,7 @@ fn debits() {
 
 #[test]
 fn a_debit_equal_to_the_pension_passes() {
-    // 66,667 pence by factor 100 is a debit of 66,667 pence.
+    // 66,667 pence by factor 100 is a debit of 66,667 pence. The pension was rounded up.
     let year = [
         LATE,
         "0207DF0000",
@@ -165,7 +170,11 @@ fn a_debit_equal_to_the_pension_passes() {
         "03038408CA00124F80",
     ];
     let with = |debit: &'static str| outcome(&[&year[..], &[debit]].concat());
-    assert_eq!(with("06000001046B0064"), Outcome::default());
+    let nothing_left = Outcome {
+        rounded_up: 1,
+        ..Outcome::default()
+    };
+    assert_eq!(with("06000001046B0064"), nothing_left);
     assert_eq!(with("06000001046A0064").net_2015, 1);
     assert_eq!(with("06000001046C0064").refusal, 14);
 }
@@ -206,7 +215,7 @@ fn the_printed_example() {
     assert_eq!(given.net_2015, 66_667);
     assert_eq!(
         printed(&given),
-        b"80000000000001046B000000000000000000000000000000000000000000000000\n"
+        b"80000000000001046B0000000000000000000000000000000000000000000000000001\n"
     );
 }
 

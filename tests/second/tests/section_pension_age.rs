@@ -10,9 +10,9 @@ const FINAL_PAY: &str = "04002DC6C0002F4D600030D400003D0900004100410041071C8407E
 const TEN_PAYS: &str =
     "08002DC6C0002DC6C0002DC6C0002DC6C0002DC6C0002DC6C0002DC6C0002DC6C0002DC6C0002DC6C01C84";
 
-/// The line of four amounts in pence.
+/// The line of four amounts in pence, none of them rounded up.
 fn worked(net_2015: u64, net_1995: u64, net_lump_sum: u64, charge: u64) -> String {
-    format!("80{net_2015:016X}{net_1995:016X}{net_lump_sum:016X}{charge:016X}")
+    format!("80{net_2015:016X}{net_1995:016X}{net_lump_sum:016X}{charge:016X}0000")
 }
 
 /// A member who is out at 67, of the section and the age that is given for it.
@@ -26,7 +26,7 @@ fn the_last_byte() {
     let printed = line(&["0107B2040107F50401004300", year, first, second]);
     assert_eq!(
         printed,
-        "80000000000001046B000000000000000000000000000000000000000000000000"
+        "80000000000001046B0000000000000000000000000000000000000000000000000001"
     );
     assert_eq!(
         line(&["0107B2040107F5040101433C", FINAL_PAY]),

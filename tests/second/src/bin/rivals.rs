@@ -1,6 +1,6 @@
 //! Tries rival workings: none may have a larger net pension sum or a larger net lump sum than the
 //! amounts that the case gives. Small cases are held against every rival there is, large ones
-//! against random and greedy rivals. The amounts are the engine's.
+//! against random and greedy rivals. The amounts are the engine's; a rival has no count of roundings.
 
 use second::benefits::after_year;
 use second::cases::{Case, Year};
@@ -10,6 +10,7 @@ use second::random::Random;
 use second::samples::accepted;
 use second::samples::writing::case_text;
 use second::ten_pays::TenPays;
+use second::wide::Rounded;
 use second::Outcome;
 use std::collections::BTreeSet;
 use std::ops::RangeInclusive;
@@ -90,7 +91,7 @@ impl Divisions {
 
     fn add(&mut self, posts: &[Post], parts: &[u64]) {
         self.count += 1;
-        self.aggregates.insert(aggregate_of(posts, parts));
+        self.aggregates.insert(aggregate_of(posts, parts).number);
     }
 
     /// Adds every division that has the parts so far before the place.
@@ -216,7 +217,7 @@ fn try_some_rivals(random: &mut Random, case: &Case) -> u64 {
     let mut as_good = 0;
     let final_years = final_years(case).cycle();
     for final_year in final_years.take(RIVALS_OF_A_LARGE_CASE) {
-        let aggregates: Vec<u64> = case
+        let aggregates: Vec<Rounded> = case
             .years
             .iter()
             .map(|year| aggregate_of(&year.posts, &rival_parts(random, &year.posts)))

@@ -324,7 +324,7 @@ pub fn debit_of(random: &mut Random, scheme: u64, amount: u64) -> Option<Debit> 
     let any = random.between(100, 5_000);
     for factor in [any, 200, 100, 50, 25, 20, 10, 5, 4, 2, 1] {
         let pot = rounded(u128::from(amount) * u128::from(factor), 100);
-        if pot <= LARGEST_PAY && pension_debit(pot, factor) == amount {
+        if pot <= LARGEST_PAY && pension_debit(pot, factor).number == amount {
             return Some(Debit {
                 scheme,
                 pot,
@@ -347,7 +347,7 @@ fn debit_within(random: &mut Random, scheme: u64, amount: u64) -> Option<Debit> 
     } else {
         factor
     };
-    if pension_debit(pot, factor) <= amount {
+    if pension_debit(pot, factor).number <= amount {
         return Some(Debit {
             scheme,
             pot,
@@ -359,7 +359,7 @@ fn debit_within(random: &mut Random, scheme: u64, amount: u64) -> Option<Debit> 
 }
 
 /// The most that the pension debit of a section can be.
-fn most_section_debit(case: &Case, had: &Benefits) -> u64 {
+pub(super) fn most_section_debit(case: &Case, had: &Benefits) -> u64 {
     if case.has_lump_sum() {
         had.pension_1995.min(had.lump_sum / 3)
     } else {

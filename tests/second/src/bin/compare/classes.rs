@@ -172,7 +172,7 @@ fn half_in_1995_pension(case: &Case) -> bool {
 }
 
 fn half_in_accrual(case: &Case) -> bool {
-    let half = |year: &Year| second::posts::aggregate(&year.posts) % 54 == 27;
+    let half = |year: &Year| second::posts::aggregate(&year.posts).number % 54 == 27;
     case.years.iter().any(half)
 }
 
@@ -187,7 +187,7 @@ fn half_in_lump_sum(case: &Case) -> bool {
         return false;
     };
     case.final_pay.map_or(false, |given| {
-        3 * given.pension(given.final_year()) * factor.lump_sum % 1_000 == 500
+        3 * given.pension(given.final_year()).number * factor.lump_sum % 1_000 == 500
     })
 }
 

@@ -3,6 +3,7 @@
 
 mod classes;
 mod employers;
+mod roundings;
 mod tally;
 mod ten_pays;
 
@@ -10,7 +11,8 @@ use classes::{
     Test, ABATEMENT_CLASSES, CASE_CLASSES, CHARGE_CLASSES, DATES_CLASSES, POSTS_CLASSES,
 };
 use employers::CHANGE_CLASSES;
-use second::cases::read;
+use roundings::{classify_roundings, expect_roundings, Listed, COUNT_CLASSES};
+use second::cases::{read, Case};
 use second::engine;
 use second::random::Random;
 use second::samples::calls::{
@@ -21,6 +23,7 @@ use second::samples::calls::{
 use second::samples::damaged::mixed::{mixed_frames, one_byte_changed, random_damage};
 use second::samples::damaged::CAUSES;
 use second::samples::employers::{any_change_call, change_call, CHANGE_CAUSES};
+use second::samples::roundings::case_going_up;
 use second::samples::writing::case_text;
 use second::samples::{accepted, writing};
 use std::fmt::Debug;
@@ -30,9 +33,11 @@ use ten_pays::TEN_PAYS_CLASSES;
 
 const SEED: u64 = 0x0001_9950_0002_0150;
 
-/// The accepted cases, the largest ones among them, and the texts damaged without a cause named.
+/// The accepted cases, the largest ones among them, those in which all roundings go up, and the texts
+/// damaged without a cause named.
 const CASES: u64 = 105_000;
 const LARGEST_CASES: u64 = 100;
+const CASES_GOING_UP: u64 = 600;
 const RANDOM_DAMAGES: u64 = 40_000;
 const MIXED_FRAMES: u64 = 20_000;
 
@@ -113,6 +118,9 @@ fn compare_case(tally: &mut Tally, text: &[u8]) -> (u64, u64) {
         let case = read(text).expect("an accepted text");
         classify(tally, CASE, CASE_CLASSES, &case);
         classify(tally, CASE, TEN_PAYS_CLASSES, &case);
+        let listed = Listed::of(&case);
+        classify(tally, CASE, COUNT_CLASSES, &listed);
+        classify_roundings(tally, CASE, &listed);
     }
     if expected.line > 255 {
         tally.add("case: refused at a line above 255");
@@ -123,23 +131,27 @@ fn compare_case(tally: &mut Tally, text: &[u8]) -> (u64, u64) {
     (expected.refusal, expected.line)
 }
 
+/// Compares an accepted case by its text.
+fn compare_accepted(tally: &mut Tally, case: Case) {
+    let text = case_text(&case);
+    let given = compare_case(tally, &text);
+    hold_to_cause(CASE, "accepted", &hexadecimal(&text), (0, 0), given);
+    if read(&text) != Ok(case) {
+        fail(CASE, &hexadecimal(&text), "another case", "the case drawn");
+    }
+    if text.len() == second::frames::LARGEST_TEXT {
+        tally.add("case: accepted, 32,768 bytes");
+    }
+}
+
 fn compare_cases(tally: &mut Tally, random: &mut Random) {
     for number in 0..CASES {
-        let largest = number < LARGEST_CASES;
-        let case = if largest {
+        let case = if number < LARGEST_CASES {
             accepted::largest_case(random)
         } else {
             accepted::case(random)
         };
-        let text = case_text(&case);
-        let given = compare_case(tally, &text);
-        hold_to_cause(CASE, "accepted", &hexadecimal(&text), (0, 0), given);
-        if read(&text) != Ok(case) {
-            fail(CASE, &hexadecimal(&text), "another case", "the case drawn");
-        }
-        if text.len() == second::frames::LARGEST_TEXT {
-            tally.add("case: accepted, 32,768 bytes");
-        }
+        compare_accepted(tally, case);
     }
 }
 
@@ -345,6 +357,8 @@ fn expected() -> Tally {
     tally.expect("case: accepted, 32,768 bytes", 50);
     expect_classes(&mut tally, CASE, CASE_CLASSES);
     expect_classes(&mut tally, CASE, TEN_PAYS_CLASSES);
+    expect_classes(&mut tally, CASE, COUNT_CLASSES);
+    expect_roundings(&mut tally, CASE);
     tally.expect("case: refused at a line above 255", 50);
     tally.expect("case: refused at a line above 1,000", 50);
     for cause in CAUSES {
@@ -383,6 +397,9 @@ fn main() {
     compare_cases(&mut tally, &mut random);
     compare_damaged(&mut tally, &mut random);
     CHANGE_CALL.compare_all(&mut tally, &mut random);
+    for _ in 0..CASES_GOING_UP {
+        compare_accepted(&mut tally, case_going_up(&mut random));
+    }
     if !tally.reached() {
         println!("some class has too few inputs");
         exit(1);

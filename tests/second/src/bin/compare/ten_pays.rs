@@ -34,8 +34,9 @@ fn best_apart(given: &TenPays) -> bool {
 /// Whether another three, worse before rounding, have the same rounded average.
 fn equal_by_rounding(given: &TenPays) -> bool {
     let best = given.best_year();
+    let average = |year| given.average(year).number;
     TenPays::last_years()
-        .any(|year| given.sum(year) < given.sum(best) && given.average(year) == given.average(best))
+        .any(|year| given.sum(year) < given.sum(best) && average(year) == average(best))
 }
 
 /// Whether the highest pay of all is in none of the best threes.
@@ -59,11 +60,11 @@ fn rest(given: &TenPays, rest: u64) -> bool {
 fn average_decides(given: &TenPays) -> bool {
     let best = given.best_year();
     let unrounded = u128::from(given.sum(best)) * u128::from(given.days);
-    rounded(unrounded, 3 * 21_900) != given.pension(best)
+    rounded(unrounded, 3 * 21_900) != given.pension(best).number
 }
 
 fn half_in_pension(given: &TenPays) -> bool {
-    given.average(given.best_year()) * given.days % 21_900 == 10_950
+    given.average(given.best_year()).number * given.days % 21_900 == 10_950
 }
 
 /// Months early in the 2008 Section.

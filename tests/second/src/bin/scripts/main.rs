@@ -98,6 +98,19 @@ mod tests {
         assert_unknown("figures", known, &unknown);
     }
 
+    /// A 54th of 27 pence goes up; a debit of a penny and a half takes more than that.
+    #[test]
+    fn a_closed_case_has_its_count() {
+        let frames = "0107B2040107F50401004300 0207DF0000 03000100010000001B";
+        let worked = "worked: net 2015 1, net 1995 0, lump sum 0, charge 0 pence, 1 rounded up\n";
+        let script = format!("F frames|{frames}\nC worked\nF debit|0600000000030000\n");
+        let lines = format!("frames 0 0 0\n{worked}debit 11\n");
+        assert_eq!(done("running", &script), Ok(lines));
+        let script = format!("F frames|{frames} 06000000000300C8\nC refused\n");
+        let lines = "frames 0 0 0 0\nrefused: refusal 14, line 0\n";
+        assert_eq!(done("running", &script), Ok(lines.to_string()));
+    }
+
     #[test]
     fn a_last_line_without_an_end_is_an_error() {
         assert!(done("running", "C closed\n").is_ok());

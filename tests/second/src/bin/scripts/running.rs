@@ -36,12 +36,13 @@ impl Running {
         Some(line + "\n")
     }
 
-    /// The label and the four amounts, or the refusal of the closing, which has no line.
+    /// The label, the four amounts and the count of upward roundings, or the refusal of the closing,
+    /// which has no line.
     fn closed(&self, label: &str) -> String {
         match self.case.close() {
             Ok(given) => format!(
-                "{label}: net 2015 {}, net 1995 {}, lump sum {}, charge {} pence\n",
-                given.net_2015, given.net_1995, given.net_lump_sum, given.charge
+                "{label}: net 2015 {}, net 1995 {}, lump sum {}, charge {} pence, {} rounded up\n",
+                given.net_2015, given.net_1995, given.net_lump_sum, given.charge, given.rounded_up
             ),
             Err(refusal) => format!("{label}: refusal {refusal}, line 0\n"),
         }
