@@ -101,7 +101,8 @@ static int print_change(const char *title, struct canyonsieve_charges charges)
     return 0;
 }
 
-/* A whole case. The pension of the member's section, the 1995 or the 2008, is in net_1995. */
+/* A whole case. The pension of the member's section, the 1995 or the 2008, is in net_1995. The count is for those who
+ * hold the amounts against a ledger. */
 static int print_case(const char *title, const char *text, size_t length)
 {
     struct canyonsieve_outcome outcome = canyonsieve_case((const uint8_t *)text, length);
@@ -113,6 +114,7 @@ static int print_case(const char *title, const char *text, size_t length)
     pounds("pension of the member's section", outcome.net_1995, "a year");
     pounds("lump sum", outcome.net_lump_sum, "once");
     pounds("the employer's charge", outcome.charge, "once");
+    printf("amounts rounded up on the way: %" PRIu64 "\n", outcome.rounded_up);
     return 0;
 }
 

@@ -28,10 +28,10 @@ extern "C" {
 
 /* The version of this interface. It is raised by one when a function is added, when a struct or a frame changes, and
  * when a kind of frame is added. Code that was written for one version asks for it:
- *     #if CANYONSIEVE_VERSION != 5
+ *     #if CANYONSIEVE_VERSION != 6
  *     #error "another version of canyonsieve.h"
  *     #endif */
-#define CANYONSIEVE_VERSION 5
+#define CANYONSIEVE_VERSION 6
 
 /* The limits. */
 #define CANYONSIEVE_MAX_POSTS 16         /* posts of a year */
@@ -183,8 +183,9 @@ struct canyonsieve_charges {
     uint64_t new_charge; /* what the new employer pays, once */
 };
 
-/* A refusal, 0 for none, the line of the text that it is about, 0 for no line, and four amounts in pence, all 0 when
- * refused. */
+/* A refusal, 0 for none, the line of the text that it is about, 0 for no line, four amounts in pence, and how many
+ * amounts were rounded up on the way to them; amounts and count are 0 when refused. From version 6 on the struct has
+ * its last field and is longer by it: code that was compiled for an earlier version has to be compiled anew. */
 struct canyonsieve_outcome {
     uint64_t refusal;
     uint64_t line;
@@ -192,6 +193,7 @@ struct canyonsieve_outcome {
     uint64_t net_1995;     /* pension of the 1995 or the 2008 Section, for a year */
     uint64_t net_lump_sum; /* lump sum, once; only the 1995 Section has one */
     uint64_t charge;       /* the employer's final pay charge, once; not the member's; 0 in the 2008 Section */
+    uint64_t rounded_up;   /* how many of the amounts on the way were rounded up; 0 when refused */
 };
 
 /* The pensionable pay of a year with several posts, in pence for that year: the aggregate of the posts, with hours past
@@ -250,6 +252,10 @@ CANYONSIEVE_CHECKED struct canyonsieve_charges canyonsieve_change_of_employer(
  * the lump sum and the charge once. No other division of the hours of the posts, no other of the last three years as
  * final pay and no other three consecutive years of the ten pays would give a larger net pension of both together, or a
  * larger net lump sum.
+ *
+ * rounded_up is for those who hold the amounts against a ledger: how many of the amounts on the way were rounded up, a
+ * half being up. What was exact or went down is not counted. The allowed pay of each controlled year is among them,
+ * whichever year gives final pay. The count is at most 161. docs/RULES.md says where an amount is rounded.
  *
  * text: length bytes, lines of digits 0-9 and A-F, two to a byte, each line ended by a line feed and holding one frame;
  * docs/FRAMES.md has the frames. From version 5 on a member frame has 12 bytes, the last of them the pension age of the

@@ -2,7 +2,7 @@
  * figures of the paper. Prints how many checks there were; stops at the first that fails, with its line. */
 #include "canyonsieve.h"
 
-#if CANYONSIEVE_VERSION != 5
+#if CANYONSIEVE_VERSION != 6
 #error "another version of canyonsieve.h"
 #endif
 
@@ -358,7 +358,10 @@ static void abatements(void)
     figure(__LINE__, canyonsieve_abatement(1000000, 1000001, 2000000, 1800000), CANYONSIEVE_EARNED, 0);
 }
 
-static void outcome(int line, const char *text, size_t length, const uint64_t expected[6])
+/* The numbers of an outcome, expected in the order of its fields. */
+enum { FIELDS = 7 };
+
+static void outcome(int line, const char *text, size_t length, const uint64_t expected[FIELDS])
 {
     struct canyonsieve_outcome got = canyonsieve_case((const uint8_t *)text, length);
     same(line, "refusal", got.refusal, expected[0]);
@@ -367,21 +370,24 @@ static void outcome(int line, const char *text, size_t length, const uint64_t ex
     same(line, "net 1995", got.net_1995, expected[3]);
     same(line, "net lump sum", got.net_lump_sum, expected[4]);
     same(line, "charge", got.charge, expected[5]);
+    same(line, "rounded up", got.rounded_up, expected[6]);
 }
 
-static void worked(int line, const char *text, uint64_t net_2015, uint64_t net_1995, uint64_t net_lump_sum, uint64_t charge)
+static void worked(int line, const char *text, uint64_t net_2015, uint64_t net_1995, uint64_t net_lump_sum,
+                   uint64_t charge, uint64_t rounded_up)
 {
-    const uint64_t expected[6] = {0, 0, net_2015, net_1995, net_lump_sum, charge};
+    const uint64_t expected[FIELDS] = {0, 0, net_2015, net_1995, net_lump_sum, charge, rounded_up};
     outcome(line, text, strlen(text), expected);
 }
 
 static void refused(int line, const char *text, uint64_t refusal, uint64_t at)
 {
-    const uint64_t expected[6] = {refusal, at, 0, 0, 0, 0};
+    const uint64_t expected[FIELDS] = {refusal, at, 0, 0, 0, 0, 0};
     outcome(line, text, strlen(text), expected);
 }
 
 #define MEMBER "0107B2040107F50401004300\n"
+#define MONTH_EARLY "0107B2040107F50301004300\n"
 #define YEAR "0207DF0000\n"
 #define POSTS "0305DC08CA0027AC40\n03038408CA00124F80\n"
 
@@ -403,19 +409,18 @@ static void refused(int line, const char *text, uint64_t refusal, uint64_t at)
 
 static void cases(void)
 {
-    static const uint64_t no_record[6] = {CANYONSIEVE_ORDER, 0, 0, 0, 0, 0};
-    static const uint64_t too_long[6] = {CANYONSIEVE_TEXT_LENGTH, 0, 0, 0, 0, 0};
-    static char text[32769];
+    static const uint64_t no_record[FIELDS] = {CANYONSIEVE_ORDER};
 
-    worked(__LINE__, MEMBER YEAR POSTS, 66667, 0, 0, 0);
-    worked(__LINE__, MEMBER, 0, 0, 0, 0);
-    /* A member with a section: the final pay and the charge of the starred figure. */
-    worked(__LINE__, MEMBER_1995 YEAR POSTS FINAL_PAY, 66667, 1000000, 3000000, 3433600);
+    /* 3,600,000/54 = 66,666.67 is the one amount that goes up. */
+    worked(__LINE__, MEMBER YEAR POSTS, 66667, 0, 0, 0, 1);
+    worked(__LINE__, MEMBER, 0, 0, 0, 0, 0);
+    /* A member with a section: the final pay and the charge of the starred figure, all of them exact. */
+    worked(__LINE__, MEMBER_1995 YEAR POSTS FINAL_PAY, 66667, 1000000, 3000000, 3433600, 1);
 
     /* The factor is that of the months that the last day completed. */
-    worked(__LINE__, LAST_OF_JUNE YEAR POST_OF_500 TWO_MONTHS, 49500, 0, 0, 0);
+    worked(__LINE__, LAST_OF_JUNE YEAR POST_OF_500 TWO_MONTHS, 49500, 0, 0, 0, 0);
     refused(__LINE__, LAST_OF_JUNE YEAR POST_OF_500 THREE_MONTHS, CANYONSIEVE_NO_FACTOR, 0);
-    worked(__LINE__, DAY_BEFORE_IT YEAR POST_OF_500 THREE_MONTHS, 49000, 0, 0, 0);
+    worked(__LINE__, DAY_BEFORE_IT YEAR POST_OF_500 THREE_MONTHS, 49000, 0, 0, 0, 0);
     refused(__LINE__, DAY_BEFORE_IT YEAR POST_OF_500 TWO_MONTHS, CANYONSIEVE_NO_FACTOR, 0);
 
     outcome(__LINE__, NULL, 0, no_record);
@@ -430,23 +435,26 @@ static void cases(void)
     refused(__LINE__, MEMBER "0207DE0000\n", CANYONSIEVE_YEAR, 2);
     refused(__LINE__, MEMBER YEAR "0308CB08CA0027AC40\n", CANYONSIEVE_POST, 3);
     refused(__LINE__, MEMBER_1995, CANYONSIEVE_NO_FINAL_PAY, 0);
-    refused(__LINE__, "0107B2040107F50301004300\n", CANYONSIEVE_NO_FACTOR, 0);
+    refused(__LINE__, MONTH_EARLY, CANYONSIEVE_NO_FACTOR, 0);
     refused(__LINE__, MEMBER YEAR POSTS "06000001046C0064\n", CANYONSIEVE_DEBIT_ABOVE, 0);
-    worked(__LINE__, MEMBER YEAR POSTS "06000001046B0064\n", 0, 0, 0, 0);
+    worked(__LINE__, MEMBER YEAR POSTS "06000001046B0064\n", 0, 0, 0, 0, 1);
+}
+
+/* One line of noughts: too long a text, an odd count of digits, and a frame too long. */
+static void long_texts(void)
+{
+    static const uint64_t too_long[FIELDS] = {CANYONSIEVE_TEXT_LENGTH};
+    static const uint64_t odd_line[FIELDS] = {CANYONSIEVE_LINE, 1};
+    static const uint64_t long_frame[FIELDS] = {CANYONSIEVE_FRAME, 1};
+    static char text[32769];
 
     memset(text, '0', sizeof text);
     outcome(__LINE__, text, 32769, too_long);
     text[32767] = '\n';
-    {
-        const uint64_t long_line[6] = {CANYONSIEVE_LINE, 1, 0, 0, 0, 0};
-        outcome(__LINE__, text, 32768, long_line);
-    }
+    outcome(__LINE__, text, 32768, odd_line);
     text[32766] = '\n';
     text[32767] = '0';
-    {
-        const uint64_t long_frame[6] = {CANYONSIEVE_FRAME, 1, 0, 0, 0, 0};
-        outcome(__LINE__, text, 32768, long_frame);
-    }
+    outcome(__LINE__, text, 32768, long_frame);
 }
 
 /* Members of the 2008 Section, born 1 April 1970: out at 67, and at 63, which is 48 months early in the 2015 Scheme and
@@ -459,9 +467,9 @@ static void cases(void)
 
 /* What a member with ten pays gets, in the 2008 Section and without it. */
 static void ten_pays(int line, const char *member, const uint32_t pays[10], unsigned days, uint64_t refusal,
-                     uint64_t net_1995)
+                     uint64_t net_1995, uint64_t rounded_up)
 {
-    const uint64_t expected[6] = {refusal, refusal == 0 ? 0 : 2, 0, net_1995, 0, 0};
+    const uint64_t expected[FIELDS] = {refusal, refusal == 0 ? 0 : 2, 0, net_1995, 0, 0, rounded_up};
     char text[128];
     size_t length = (size_t)sprintf(text, "%s08", member);
 
@@ -478,33 +486,34 @@ static void pensions_2008(void)
     static const uint32_t small[10] = {1, 1};
     uint32_t most[10];
 
-    worked(__LINE__, MEMBER_2008 TEN_PAYS, 0, 1366667, 0, 0);
-    worked(__LINE__, MEMBER_2008 YEAR POSTS TEN_PAYS, 66667, 1366667, 0, 0);
-    ten_pays(__LINE__, MEMBER_2008, equal, 7300, 0, 1000000);
-    /* The average of 2 pence in three years is 1, and so is the pension of 0.75. */
-    ten_pays(__LINE__, MEMBER_2008, small, 16425, 0, 1);
-    ten_pays(__LINE__, MEMBER_2008, small, 0, 0, 0);
+    /* The average is exact, the pension of 1,366,666.67 goes up; beside it the 54th of the printed case. */
+    worked(__LINE__, MEMBER_2008 TEN_PAYS, 0, 1366667, 0, 0, 1);
+    worked(__LINE__, MEMBER_2008 YEAR POSTS TEN_PAYS, 66667, 1366667, 0, 0, 2);
+    ten_pays(__LINE__, MEMBER_2008, equal, 7300, 0, 1000000, 0);
+    /* The average of 2 pence in three years is 1, and so is the pension of 0.75; of no days it is exact. */
+    ten_pays(__LINE__, MEMBER_2008, small, 16425, 0, 1, 2);
+    ten_pays(__LINE__, MEMBER_2008, small, 0, 0, 0, 1);
     /* The best three years at each place. */
     for (size_t first = 0; first < 8; first++) {
         uint32_t pays[10] = {0};
         pays[first] = 4000000;
         pays[first + 1] = 4300000;
         pays[first + 2] = 4000000;
-        ten_pays(__LINE__, MEMBER_2008, pays, 7300, 0, 1366667);
+        ten_pays(__LINE__, MEMBER_2008, pays, 7300, 0, 1366667, 1);
     }
     /* Each limit, and past it. */
     for (size_t i = 0; i < 10; i++)
         most[i] = CANYONSIEVE_MAX_PAY;
-    ten_pays(__LINE__, MEMBER_2008, most, 16425, 0, 750000000);
-    ten_pays(__LINE__, MEMBER_2008, most, 16426, CANYONSIEVE_TEN_PAYS, 0);
-    ten_pays(__LINE__, MEMBER, most, 16426, CANYONSIEVE_ORDER, 0);
-    ten_pays(__LINE__, MEMBER_1995, most, 16426, CANYONSIEVE_ORDER, 0);
+    ten_pays(__LINE__, MEMBER_2008, most, 16425, 0, 750000000, 0);
+    ten_pays(__LINE__, MEMBER_2008, most, 16426, CANYONSIEVE_TEN_PAYS, 0, 0);
+    ten_pays(__LINE__, MEMBER, most, 16426, CANYONSIEVE_ORDER, 0, 0);
+    ten_pays(__LINE__, MEMBER_1995, most, 16426, CANYONSIEVE_ORDER, 0, 0);
     for (size_t i = 0; i < 10; i++) {
         most[i]++;
-        ten_pays(__LINE__, MEMBER_2008, most, 16425, CANYONSIEVE_TEN_PAYS, 0);
-        ten_pays(__LINE__, MEMBER, most, 16425, CANYONSIEVE_ORDER, 0);
+        ten_pays(__LINE__, MEMBER_2008, most, 16425, CANYONSIEVE_TEN_PAYS, 0, 0);
+        ten_pays(__LINE__, MEMBER, most, 16425, CANYONSIEVE_ORDER, 0, 0);
         most[i] = UINT32_MAX;
-        ten_pays(__LINE__, MEMBER_2008, most, 0, CANYONSIEVE_TEN_PAYS, 0);
+        ten_pays(__LINE__, MEMBER_2008, most, 0, CANYONSIEVE_TEN_PAYS, 0, 0);
         most[i] = CANYONSIEVE_MAX_PAY;
     }
 }
@@ -512,16 +521,16 @@ static void pensions_2008(void)
 /* Their factors and debits. */
 static void cases_2008(void)
 {
-    /* Early by 65: 0.8 of 13,666.67. */
-    worked(__LINE__, EARLY_2008 TEN_PAYS FACTOR_2015 FACTOR_2008, 0, 1093334, 0, 0);
+    /* Early by 65: 0.8 of 13,666.67 is 10,933.336, up as the pension itself. */
+    worked(__LINE__, EARLY_2008 TEN_PAYS FACTOR_2015 FACTOR_2008, 0, 1093334, 0, 0, 2);
     refused(__LINE__, EARLY_2008 TEN_PAYS FACTOR_2015, CANYONSIEVE_NO_FACTOR, 0);
     refused(__LINE__, EARLY_2008 TEN_PAYS FACTOR_2008, CANYONSIEVE_NO_FACTOR, 0);
     refused(__LINE__, EARLY_2008 TEN_PAYS FACTOR_2015 "0501001803200001\n", CANYONSIEVE_FACTOR, 4);
     refused(__LINE__, MEMBER FACTOR_2008, CANYONSIEVE_FACTOR, 2);
     refused(__LINE__, MEMBER_2008 TEN_PAYS "0502001803200000\n", CANYONSIEVE_FACTOR, 3);
-    /* Debits of 495.05, of all of it, and of a penny more. */
-    worked(__LINE__, MEMBER_2008 TEN_PAYS "0601000F424007E4\n", 0, 1317162, 0, 0);
-    worked(__LINE__, MEMBER_2008 TEN_PAYS "06010014DA8B0064\n", 0, 0, 0, 0);
+    /* Debits of 495.0495, which goes up, of all of it, and of a penny more. */
+    worked(__LINE__, MEMBER_2008 TEN_PAYS "0601000F424007E4\n", 0, 1317162, 0, 0, 2);
+    worked(__LINE__, MEMBER_2008 TEN_PAYS "06010014DA8B0064\n", 0, 0, 0, 0, 1);
     refused(__LINE__, MEMBER_2008 TEN_PAYS "06010014DA8C0064\n", CANYONSIEVE_DEBIT_ABOVE, 0);
     refused(__LINE__, MEMBER_2008 TEN_PAYS "06013B9ACA000001\n", CANYONSIEVE_DEBIT_ABOVE, 0);
     refused(__LINE__, MEMBER "0601000F424007E4\n", CANYONSIEVE_DEBIT, 2);
@@ -567,11 +576,11 @@ static void section_ages(void)
         for (unsigned byte = 0; byte < 256; byte++) {
             uint64_t alone = section == 0 ? CANYONSIEVE_ACCEPTED : CANYONSIEVE_NO_FINAL_PAY;
             uint64_t refusal = byte == own[section] ? alone : CANYONSIEVE_SECTION_AGE;
-            const uint64_t expected[6] = {refusal, refusal == CANYONSIEVE_SECTION_AGE, 0, 0, 0, 0};
+            const uint64_t expected[FIELDS] = {refusal, refusal == CANYONSIEVE_SECTION_AGE};
             sprintf(text, "0107B2040107F50401%02X43%02X\n", section, byte);
             outcome(__LINE__, text, strlen(text), expected);
         }
-    worked(__LINE__, EARLY_1995 FINAL_PAY FACTORS_1995, 0, 800000, 2700000, 3433600);
+    worked(__LINE__, EARLY_1995 FINAL_PAY FACTORS_1995, 0, 800000, 2700000, 3433600, 0);
     refused(__LINE__, EARLY_1995 FINAL_PAY FACTORS_TO_65, CANYONSIEVE_NO_FACTOR, 0);
     refused(__LINE__, "0107B2040107F504010043\n", CANYONSIEVE_FRAME, 1);
     refused(__LINE__, "0107B2040107F504010343\n", CANYONSIEVE_FRAME, 1);
@@ -581,6 +590,150 @@ static void section_ages(void)
     refused(__LINE__, "0107B2040107F5040100363C\n", CANYONSIEVE_DATES, 1);
     refused(__LINE__, "0107B2041F07F50401014300\n", CANYONSIEVE_DATES, 1);
     refused(__LINE__, "0107B2040207B204010243FF\n", CANYONSIEVE_DATES, 1);
+}
+
+/* The struct as the library fills it: seven numbers, the count last. */
+static void layout(void)
+{
+    same(__LINE__, "bytes of an outcome", sizeof(struct canyonsieve_outcome), FIELDS * sizeof(uint64_t));
+    same(__LINE__, "place of the count", offsetof(struct canyonsieve_outcome, rounded_up), 6 * sizeof(uint64_t));
+}
+
+/* A year of one whole-time post, whose pay is the aggregate, and further lines. */
+static void pay_of(int line, const char *member, unsigned pay, const char *more, uint64_t net_2015, uint64_t rounded_up)
+{
+    char text[128];
+
+    sprintf(text, "%s" YEAR "0300010001%08X\n%s", member, pay, more);
+    worked(line, text, net_2015, 0, 0, 0, rounded_up);
+}
+
+/* Which way each step of the 2015 Scheme goes. A half goes up; what is exact or goes down is not counted. */
+static void ways_2015(void)
+{
+    /* A 54th: 1, 0.48, a half, 0.52. */
+    pay_of(__LINE__, MEMBER, 54, "", 1, 0);
+    pay_of(__LINE__, MEMBER, 26, "", 0, 0);
+    pay_of(__LINE__, MEMBER, 27, "", 1, 1);
+    pay_of(__LINE__, MEMBER, 28, "", 1, 1);
+    /* A pension of 5 in a second year: 5.5, 5.4995, 6. */
+    pay_of(__LINE__, MEMBER, 270, "0207E003E8\n", 6, 1);
+    pay_of(__LINE__, MEMBER, 270, "0207E003E7\n", 5, 0);
+    pay_of(__LINE__, MEMBER, 270, "0207E007D0\n", 6, 0);
+    /* A month early by 0.5, 0.499 and 1 of a pension of 1; on time that 05 is not used. */
+    pay_of(__LINE__, MONTH_EARLY, 54, "0500000101F40000\n", 1, 1);
+    pay_of(__LINE__, MONTH_EARLY, 54, "0500000101F30000\n", 0, 0);
+    pay_of(__LINE__, MONTH_EARLY, 54, "0500000103E80000\n", 1, 0);
+    pay_of(__LINE__, MEMBER, 54, "0500000101F40000\n", 1, 0);
+    /* Debits of 100/199, 100/200, 100/201 and 100/100 from a pension of 100. */
+    pay_of(__LINE__, MEMBER, 5400, "06000000000100C7\n", 99, 1);
+    pay_of(__LINE__, MEMBER, 5400, "06000000000100C8\n", 99, 1);
+    pay_of(__LINE__, MEMBER, 5400, "06000000000100C9\n", 100, 0);
+    pay_of(__LINE__, MEMBER, 5400, "0600000000010064\n", 99, 0);
+    /* Aggregates of 8.4, a half more than 1, and 3,618,418.60, whose 54th of 67,007.76 goes up as well. */
+    worked(__LINE__, MEMBER YEAR "030005000600000008\n030002000300000004\n030001000200000001\n", 0, 0, 0, 0, 0);
+    worked(__LINE__, MEMBER YEAR "030002000300000001\n030002000300000001\n", 0, 0, 0, 0, 1);
+    worked(__LINE__, MEMBER YEAR "0303C008CA0015F900\n0301E008CA000D2F00\n0304740960001A17B0\n", 67008, 0, 0, 0, 2);
+}
+
+/* A member of the 1995 Section on time, with allowances of a half. */
+static void final_pay(int line, const uint32_t pays[4], unsigned controls, unsigned days, unsigned factor,
+                      uint64_t net_1995, uint64_t charge, uint64_t rounded_up)
+{
+    char text[128];
+
+    sprintf(text, MEMBER_1995 "04%08" PRIX32 "%08" PRIX32 "%08" PRIX32 "%08" PRIX32 "01F401F401F4%02X%04X%04X\n",
+            pays[0], pays[1], pays[2], pays[3], controls, days, factor);
+    worked(line, text, 0, net_1995, 3 * net_1995, charge, rounded_up);
+}
+
+/* Which way the steps of final pay and of the charge go. */
+static void ways_of_final_pay(void)
+{
+    static const uint32_t pays[4] = {1, 3, 1, 1};
+    static const uint32_t ones[4] = {1, 1, 1, 1};
+    /* 14,600 days are a half. The pension of 1.5 goes up, and by the controls, bit 0 for year 3: allowed 3 is 1.5 up
+     * to 2, else its pay of 3; allowed 2 is then 3, else 4.5 up to 5; allowed 1 is 1.5 up to 2. Only with year 3
+     * controlled is there an excess, 1, whose pension of 0.5 goes up. An uncontrolled year rounds nothing. */
+    static const uint64_t counts[8] = {1, 3, 2, 3, 2, 4, 3, 4};
+
+    for (unsigned controls = 0; controls < 8; controls++) {
+        unsigned years = (controls & 1) + (controls >> 1 & 1) + (controls >> 2);
+        final_pay(__LINE__, pays, controls, 14600, 100, 2, controls & 1 ? 4 : 0, counts[controls]);
+        /* Each controlled year goes from 1.5 to 2, though no excess comes of it; the pension of no days is exact. */
+        final_pay(__LINE__, ones, controls, 0, 100, 0, 0, years);
+    }
+    /* A day fewer: 1.4999 and 0.49997 go down, allowed 3 and 1 up. The charge's product of 1.5, and of 1.49. */
+    final_pay(__LINE__, pays, 7, 14599, 100, 1, 0, 2);
+    final_pay(__LINE__, pays, 1, 14600, 150, 2, 5, 4);
+    final_pay(__LINE__, pays, 1, 14600, 149, 2, 4, 3);
+}
+
+/* A final pay whose pension of 1.5 goes up to 2, uncontrolled; early in both schemes, the 2015 pension being 0. */
+#define PENSION_OF_2 "04000000010000000300000001000000010000000000000039080064\n"
+#define EARLY_OF_2 EARLY_1995 PENSION_OF_2 "0500009003840000\n"
+
+/* Which way a section's reductions, debit and ten pays go. */
+static void ways_of_sections(void)
+{
+    static const uint32_t two_thirds[10] = {0, 0, 0, 0, 0, 0, 0, 1, 1, 0};
+    static const uint32_t whole[10] = {0, 0, 0, 0, 0, 0, 1, 1, 1, 0};
+    static const uint32_t third[10] = {0, 0, 0, 0, 0, 0, 0, 0, 0, 1};
+    static const uint32_t four_thirds[10] = {0, 0, 0, 0, 0, 0, 1, 2, 1, 0};
+    static const uint32_t best_exact[10] = {0, 0, 0, 0, 0, 1, 2, 2, 2, 1};
+
+    /* By 0.75 the pension is 1.5 and the lump sum 4.5; by 0.5 both are exact; 1.4 and 4.44 go down. */
+    worked(__LINE__, EARLY_OF_2 "0501003C02EE02EE\n", 0, 2, 5, 0, 3);
+    worked(__LINE__, EARLY_OF_2 "0501003C01F401F4\n", 0, 1, 3, 0, 1);
+    worked(__LINE__, EARLY_OF_2 "0501003C02BC02E4\n", 0, 1, 4, 0, 1);
+    /* The pension debit of 100/199 counts, the lump debit of three times it does not. */
+    worked(__LINE__, MEMBER_1995 PENSION_OF_2 "06010000000100C7\n", 0, 1, 3, 0, 2);
+    /* Pension and debit, 2.56 up to 3, went up; the case is refused, and the count is 0. */
+    refused(__LINE__, MEMBER_1995 PENSION_OF_2 "0601000000010027\n", CANYONSIEVE_DEBIT_ABOVE, 0);
+    /* 10,950 days are a half. Only the average taken counts: 2/3, 1, 1/3, 4/3. */
+    ten_pays(__LINE__, MEMBER_2008, two_thirds, 10950, 0, 1, 2);
+    ten_pays(__LINE__, MEMBER_2008, whole, 10950, 0, 1, 1);
+    ten_pays(__LINE__, MEMBER_2008, third, 10950, 0, 0, 0);
+    ten_pays(__LINE__, MEMBER_2008, four_thirds, 10950, 0, 1, 1);
+    /* 6/3 is the best before rounding, though 5/3 before and after it are 2 as well, once rounded. */
+    ten_pays(__LINE__, MEMBER_2008, best_exact, 10950, 0, 1, 0);
+}
+
+/* 50 years in which all goes up but the first revaluation, that of 0: 149. Two posts make a half more than a whole
+ * number and a 54th of 29/54 more than one: 5,000 at first, then 1. Each revaluation adds 0.5 to 0.51, which is 1. In
+ * the end the pension is 5,000 + 49 x 2 = 5,098. */
+static void fifty_years(int line, const char *member, const char *rest, const uint64_t expected[FIELDS])
+{
+    static char text[4096];
+    size_t length = (size_t)sprintf(text, "%s", member);
+
+    for (unsigned i = 0; i < CANYONSIEVE_MAX_YEARS; i++) {
+        unsigned pay = i == 0 ? 179983 : 19;
+        length += (size_t)sprintf(text + length, "02%04X0001\n", 2015 + i);
+        length += (size_t)sprintf(text + length, "0300020003%08X\n0300020003%08X\n", pay, pay);
+    }
+    length += (size_t)sprintf(text + length, "%s", rest);
+    outcome(line, text, length, expected);
+}
+
+/* The highest counts: 149 of the years and all there are of the rest. */
+static void most_rounded_up(void)
+{
+    static const uint64_t no_section[FIELDS] = {0, 0, 5098, 0, 0, 0, 149};
+    static const uint64_t of_1995[FIELDS] = {0, 0, 3823, 1, 2, 5, 160};
+    static const uint64_t of_2008[FIELDS] = {0, 0, 3823, 0, 0, 0, 155};
+
+    fifty_years(__LINE__, MEMBER, "", no_section);
+    /* Pension 1.5, allowed 1.5, 2.5 and 1.5, excess pension 0.5, product 1.5; reduced 3,823.5, 1.5 and 4.5; debits. */
+    fifty_years(__LINE__, EARLY_1995,
+                "040000000100000003000000010000000101F400FA01F40739080096\n"
+                "0500009002EE0000\n0501003C02EE02EE\n06000000000100C7\n06010000000100C7\n",
+                of_1995);
+    /* Average 2/3, pension 0.5; reduced 3,823.5 and 0.5; debits. */
+    fifty_years(__LINE__, EARLY_2008,
+                "08000000000000000000000000000000000000000000000000000000000000000100000001000000002AC6\n"
+                "0500003002EE0000\n0501001801F40000\n06000000000100C7\n06010000000100C7\n",
+                of_2008);
 }
 
 /* Each refusal has words of its own, and any other number the same words. */
@@ -603,10 +756,11 @@ static void words(void)
 }
 
 /* A text of a member, years from 2015 on and one post of a pay in the last. */
-static void years(int line, unsigned count, uint64_t pay, uint64_t refusal, uint64_t at, uint64_t net_2015)
+static void years(int line, unsigned count, uint64_t pay, uint64_t refusal, uint64_t at, uint64_t net_2015,
+                  uint64_t rounded_up)
 {
     static char text[2048];
-    const uint64_t expected[6] = {refusal, at, net_2015, 0, 0, 0};
+    const uint64_t expected[FIELDS] = {refusal, at, net_2015, 0, 0, 0, rounded_up};
     size_t length = (size_t)sprintf(text, MEMBER);
 
     for (unsigned i = 0; i < count; i++)
@@ -622,10 +776,10 @@ static void limits(void)
     static uint8_t text[CANYONSIEVE_MAX_TEXT + 1];
     uint64_t parts[CANYONSIEVE_MAX_POSTS + 1];
 
-    years(__LINE__, CANYONSIEVE_MAX_YEARS, 54, 0, 0, 1);
-    years(__LINE__, CANYONSIEVE_MAX_YEARS + 1, 54, CANYONSIEVE_YEAR, 1 + CANYONSIEVE_MAX_YEARS + 1, 0);
-    years(__LINE__, 1, CANYONSIEVE_MAX_PAY, 0, 0, 18518519);
-    years(__LINE__, 1, CANYONSIEVE_MAX_PAY + UINT64_C(1), CANYONSIEVE_POST, 3, 0);
+    years(__LINE__, CANYONSIEVE_MAX_YEARS, 54, 0, 0, 1, 0);
+    years(__LINE__, CANYONSIEVE_MAX_YEARS + 1, 54, CANYONSIEVE_YEAR, 1 + CANYONSIEVE_MAX_YEARS + 1, 0, 0);
+    years(__LINE__, 1, CANYONSIEVE_MAX_PAY, 0, 0, 18518519, 1);
+    years(__LINE__, 1, CANYONSIEVE_MAX_PAY + UINT64_C(1), CANYONSIEVE_POST, 3, 0, 0);
     /* Posts of noughts are refused one by one where their number passes, bytes of noughts as a line. */
     figure(__LINE__, canyonsieve_posts(zeros, sizeof zeros - CANYONSIEVE_BYTES_OF_POST, parts, COUNT(parts)),
            CANYONSIEVE_POST, 0);
@@ -646,10 +800,16 @@ int main(void)
     dates();
     abatements();
     cases();
+    long_texts();
     pensions_2008();
     cases_2008();
     frames_2008();
     section_ages();
+    layout();
+    ways_2015();
+    ways_of_final_pay();
+    ways_of_sections();
+    most_rounded_up();
     words();
     limits();
     printf("%u checks passed\n", checks);

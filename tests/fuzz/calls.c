@@ -1,5 +1,5 @@
-/* A fuzzer's harness over the calls. The bytes are a text, a list of posts, and numbers; what is lent ends at, or begins
- * behind, a page that cannot be touched. What the contracts say of every input is looked at after each call. */
+/* A fuzzer's harness over the calls. The bytes are a text, a list of posts, and numbers; what is lent ends at, or
+ * begins behind, a page that cannot be touched. What the contracts say of every input is looked at after each call. */
 #include <canyonsieve.h>
 
 #include <stdlib.h>
@@ -7,7 +7,8 @@
 #include <sys/mman.h>
 #include <unistd.h>
 
-enum { ROOM = 65536, PLACES = 20 };
+/* MOST_UP: a case has no more amounts to round than this. */
+enum { ROOM = 65536, PLACES = 20, MOST_UP = 161 };
 
 /* Room between two pages that cannot be touched. */
 static uint8_t *guarded(void)
@@ -37,9 +38,9 @@ static void text(const uint8_t *bytes, size_t length)
     claim(memcmp(&o, &again, sizeof o) == 0);
     claim(o.refusal <= 14 || o.refusal == 27 || o.refusal == 28);
     if (o.refusal == 0)
-        claim(o.line == 0);
+        claim(o.line == 0 && o.rounded_up <= MOST_UP);
     else
-        claim(o.net_2015 == 0 && o.net_1995 == 0 && o.net_lump_sum == 0 && o.charge == 0);
+        claim(o.net_2015 == 0 && o.net_1995 == 0 && o.net_lump_sum == 0 && o.charge == 0 && o.rounded_up == 0);
     if (o.refusal == 1 || (o.refusal >= 12 && o.refusal <= 14))
         claim(o.line == 0);
     else if (o.refusal != 0 && o.refusal != 4)
