@@ -1,5 +1,5 @@
-//! The twin held against the library: the refusal, the line and the amounts of every text, and
-//! every place of the posts call.
+//! The twin held against the library: the refusal, the line, the amounts and the count of upward
+//! roundings of every text, and every place of the posts call.
 
 use crate::texts::section_2008;
 use crate::twin;

@@ -14,16 +14,59 @@ mod reading;
 pub use case::case;
 pub use posts::posts;
 
+use std::cmp::Ordering;
+
 /// The largest pay or pot in pence.
 const LARGEST_PAY: u64 = 1_000_000_000;
 
 /// The most days of service.
 const MOST_DAYS: u64 = 16_425;
 
-/// A number divided and rounded, a half upward.
+/// Which way a rounding went.
+#[derive(Clone, Copy, Debug, Default, PartialEq, Eq)]
+enum Way {
+    #[default]
+    Exact,
+    Down,
+    Up,
+}
+
+/// A rounded number and its way.
+#[derive(Clone, Copy, Debug, Default, PartialEq, Eq)]
+struct Rounded {
+    number: u64,
+    way: Way,
+}
+
+impl Rounded {
+    /// A number that nothing was done to.
+    fn exact(number: u64) -> Rounded {
+        Rounded {
+            number,
+            way: Way::Exact,
+        }
+    }
+
+    /// 1 for a rounding upward, else 0.
+    #[inline(always)]
+    fn ups(self) -> u64 {
+        u64::from(self.way == Way::Up)
+    }
+}
+
+/// A number divided and rounded, a half upward, with the way it went.
 #[inline(always)]
-fn rounded(number: u64, divisor: u64) -> u64 {
-    (number + divisor / 2) / divisor
+fn rounded(number: u64, divisor: u64) -> Rounded {
+    let nearest = (number + divisor / 2) / divisor;
+    let way = match (nearest * divisor).cmp(&number) {
+        Ordering::Less => Way::Down,
+        Ordering::Equal => Way::Exact,
+        Ordering::Greater => Way::Up,
+    };
+    Rounded {
+        number: nearest,
+        way,
+    }
 }
 
 /// `Err` with the refusal where the test fails.
@@ -38,7 +81,7 @@ fn unless(passes: bool, refusal: u64) -> Result<(), u64> {
 
 #[cfg(test)]
 mod tests {
-    use super::{case, posts};
+    use super::{case, posts, rounded, Rounded, Way};
     use second::Outcome;
 
     const PRINTED: &[u8] =
@@ -48,6 +91,25 @@ mod tests {
     fn the_printed_case_gives_its_pence() {
         let outcome = case(PRINTED);
         assert_eq!((outcome.refusal, outcome.net_2015), (0, 66_667));
+        assert_eq!(outcome.rounded_up, 1);
+    }
+
+    #[test]
+    fn a_rounding_is_exact_or_down_or_up_and_a_half_is_up() {
+        let figures = [
+            (0, 54, 0, Way::Exact),
+            (26, 54, 0, Way::Down),
+            (27, 54, 1, Way::Up),
+            (53, 54, 1, Way::Up),
+            (54, 54, 1, Way::Exact),
+            (80, 54, 1, Way::Down),
+            (1, 3, 0, Way::Down),
+            (2, 3, 1, Way::Up),
+            (5, 1, 5, Way::Exact),
+        ];
+        for (dividend, divisor, number, way) in figures {
+            assert_eq!(rounded(dividend, divisor), Rounded { number, way });
+        }
     }
 
     #[test]
@@ -80,9 +142,10 @@ mod tests {
     }
 
     /// Worked, with a 2008 pension and no other amount.
-    fn assert_pension_2008(lines: &[&str], net_1995: u64) {
+    fn assert_pension_2008(lines: &[&str], net_1995: u64, rounded_up: u64) {
         let outcome = Outcome {
             net_1995,
+            rounded_up,
             ..Outcome::default()
         };
         assert_given(lines, outcome);
@@ -105,20 +168,85 @@ mod tests {
 
     #[test]
     fn the_2008_pension_is_of_the_best_three_consecutive_years() {
-        assert_pension_2008(&[MEMBER_2008, TEN_PAYS], 1_366_667);
+        assert_pension_2008(&[MEMBER_2008, TEN_PAYS], 1_366_667, 1);
         for years in 0..8 {
             let mut pays = [1_000_000; 10];
             pays[years..years + 3].copy_from_slice(&[4_000_000, 4_300_000, 4_000_000]);
             let frame = ten_pays(pays, 7_300);
-            assert_pension_2008(&[MEMBER_2008, &frame], 1_366_667);
+            assert_pension_2008(&[MEMBER_2008, &frame], 1_366_667, 1);
         }
         let equal = ten_pays([3_000_000; 10], 7_300);
-        assert_pension_2008(&[MEMBER_2008, &equal], 1_000_000);
+        assert_pension_2008(&[MEMBER_2008, &equal], 1_000_000, 0);
         // The average of 2 pence in three years is 1, and 0.75 of a penny is 1.
         let small = ten_pays([1, 1, 0, 0, 0, 0, 0, 0, 0, 0], 16_425);
-        assert_pension_2008(&[MEMBER_2008, &small], 1);
+        assert_pension_2008(&[MEMBER_2008, &small], 1, 2);
         let largest = ten_pays([1_000_000_000; 10], 16_425);
-        assert_pension_2008(&[MEMBER_2008, &largest], 750_000_000);
+        assert_pension_2008(&[MEMBER_2008, &largest], 750_000_000, 0);
+    }
+
+    #[test]
+    fn of_ten_pays_only_the_best_average_before_rounding_counts() {
+        // 10,950 days are a half. The best sums are 2, 3 and 6, the last beside sums of 5, which
+        // give 2 as well.
+        let two_thirds = ten_pays([0, 0, 0, 0, 0, 0, 0, 1, 1, 0], 10_950);
+        assert_pension_2008(&[MEMBER_2008, &two_thirds], 1, 2);
+        let one = ten_pays([0, 0, 0, 0, 0, 0, 1, 1, 1, 0], 10_950);
+        assert_pension_2008(&[MEMBER_2008, &one], 1, 1);
+        let two = ten_pays([0, 0, 0, 0, 0, 1, 2, 2, 2, 1], 10_950);
+        assert_pension_2008(&[MEMBER_2008, &two], 1, 0);
+    }
+
+    /// Net 2015 pension and upward roundings of lines after a member of the 2015 Scheme, retired on
+    /// time, and the year 2015.
+    fn net_and_ups(lines: &[&str]) -> (u64, u64) {
+        let text = ["0107B2040107F50401004300\n0207DF0000\n", &lines.concat()].concat();
+        let outcome = case(text.as_bytes());
+        assert_eq!(outcome.refusal, 0, "{text}");
+        (outcome.net_2015, outcome.rounded_up)
+    }
+
+    /// The line of a whole-time post.
+    fn whole_time(pay: u64) -> String {
+        format!("0300010001{pay:08X}\n")
+    }
+
+    #[test]
+    fn each_step_of_the_2015_scheme_counts_where_it_goes_up() {
+        assert_eq!(net_and_ups(&[&whole_time(26)]), (0, 0));
+        assert_eq!(net_and_ups(&[&whole_time(27)]), (1, 1));
+        // 5 becomes 5.5, and 5.4995.
+        assert_eq!(net_and_ups(&[&whole_time(270), "0207E003E8\n"]), (6, 1));
+        assert_eq!(net_and_ups(&[&whole_time(270), "0207E003E7\n"]), (5, 0));
+        // Debits of 100/199, 100/200 and 100/201.
+        for (factor, given) in [(199, (99, 1)), (200, (99, 1)), (201, (100, 0))] {
+            let debit = format!("060000000001{factor:04X}\n");
+            assert_eq!(net_and_ups(&[&whole_time(5_400), &debit]), given);
+        }
+        // Aggregates of 8.4 and 1.5.
+        let posts = "030005000600000008\n030002000300000004\n030001000200000001\n";
+        assert_eq!(net_and_ups(&[posts]), (0, 0));
+        assert_eq!(net_and_ups(&["030002000300000001\n"; 2]), (0, 1));
+    }
+
+    #[test]
+    fn every_controlled_year_counts_and_no_other() {
+        // A pension of 1.5; with year 3 controlled an excess of 1, its pension a half.
+        let counts = [1, 3, 2, 3, 2, 4, 3, 4];
+        for (controls, rounded_up) in (0..).zip(counts) {
+            let lines = [
+                "0107B2040107F5040101433C\n",
+                "040000000100000003000000010000000101F401F401F4",
+                &format!("{controls:02X}39080064\n"),
+            ];
+            let outcome = Outcome {
+                net_1995: 2,
+                net_lump_sum: 6,
+                charge: 4 * (controls & 1),
+                rounded_up,
+                ..Outcome::default()
+            };
+            assert_given(&lines, outcome);
+        }
     }
 
     #[test]
@@ -126,11 +254,12 @@ mod tests {
         let early = "0107B2040107F10401024341\n";
         let factor_2015 = "0500003003840000\n";
         let factor = "0501001803200000\n";
-        assert_pension_2008(&[early, TEN_PAYS, factor_2015, factor], 1_093_334);
+        assert_pension_2008(&[early, TEN_PAYS, factor_2015, factor], 1_093_334, 2);
         assert_refused(&[early, TEN_PAYS, factor_2015], 13, 0);
         let lump_factor = "0501001803200001\n";
         assert_refused(&[early, TEN_PAYS, lump_factor], 10, 3);
-        assert_pension_2008(&[MEMBER_2008, TEN_PAYS, "0601000F424007E4\n"], 1_317_162);
+        let debit = "0601000F424007E4\n";
+        assert_pension_2008(&[MEMBER_2008, TEN_PAYS, debit], 1_317_162, 2);
         assert_refused(&[MEMBER_2008, TEN_PAYS, "06013B9ACA000001\n"], 14, 0);
     }
 

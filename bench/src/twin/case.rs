@@ -1,10 +1,12 @@
 //! A case, worked line by line.
 
-use super::benefits::{after_year, pension_and_charge, pension_debit, reduced, TenPays};
+use super::benefits::{
+    after_year, pension_debit, reduced, section_pay_1995, Counted, SectionPay, TenPays,
+};
 use super::calendar::{completed_months, try_dates, Date};
 use super::posts::{Post, YearPosts};
 use super::reading::{line, why_no_frame};
-use super::{unless, LARGEST_PAY};
+use super::{unless, Rounded, LARGEST_PAY};
 use second::benefits::FinalPay;
 use second::Outcome;
 
@@ -66,10 +68,10 @@ struct Scheme {
     months_early: i64,
     /// Pension and lump sum factor for exactly those months.
     factors: Option<(u64, u64)>,
-    debit: u64,
+    debit: Rounded,
 }
 
-/// Factors that reduce nothing.
+/// Factors that reduce nothing, and by which all is exact.
 const UNREDUCED: (u64, u64) = (1_000, 1_000);
 
 impl Scheme {
@@ -93,9 +95,9 @@ struct Case {
     revaluation: u64,
     posts: YearPosts,
     /// The 2015 pension of the years before the last.
-    pension_2015: u64,
-    /// The section's pension before reduction and the charge, of the 04 or 08.
-    section_pay: Option<(u64, u64)>,
+    pension_2015: Counted,
+    /// What the 04 or 08 gives.
+    section_pay: Option<SectionPay>,
     /// The scheme and months of the last 05 in one number, and the scheme of the last 06, from 1.
     last_factor: u64,
     last_debit: u64,
@@ -111,7 +113,7 @@ impl Case {
             april: 0,
             revaluation: 0,
             posts: YearPosts::new(),
-            pension_2015: 0,
+            pension_2015: Counted::default(),
             section_pay: None,
             last_factor: 0,
             last_debit: 0,
@@ -178,7 +180,7 @@ impl Case {
     /// The 2015 pension with the last year. Before any year there are no posts and no pension,
     /// which gives 0.
     #[inline(always)]
-    fn pension_after_year(&self) -> u64 {
+    fn pension_after_year(&self) -> Counted {
         after_year(self.pension_2015, self.revaluation, self.posts.aggregate())
     }
 
@@ -204,7 +206,7 @@ impl Case {
         })?;
         self.try_pay_of(Section::Of1995)?;
         final_pay.tried()?;
-        self.section_pay = Some(pension_and_charge(&final_pay));
+        self.section_pay = Some(section_pay_1995(&final_pay));
         self.stage = Stage::SectionPay;
         Ok(after)
     }
@@ -216,7 +218,7 @@ impl Case {
         })?;
         self.try_pay_of(Section::Of2008)?;
         ten_pays.tried()?;
-        self.section_pay = Some((ten_pays.pension(), 0));
+        self.section_pay = Some(ten_pays.section_pay());
         self.stage = Stage::SectionPay;
         Ok(after)
     }
@@ -284,19 +286,23 @@ impl Case {
         let [scheme, section] = &self.schemes;
         let (factor, _) = scheme.wanted_factors()?;
         let (section_factor, lump_factor) = section.wanted_factors()?;
-        let (pension, charge) = self.section_pay.unwrap_or_default();
+        let pension_2015 = self.pension_after_year();
+        let section_pay = self.section_pay.unwrap_or_default();
         let lump_sums = self.section.lump_sums();
-        let less = |amount: u64, debit: u64| amount.checked_sub(debit).ok_or(14_u64);
+        let pension = reduced(pension_2015.amount, factor);
+        let section_pension = reduced(section_pay.pension, section_factor);
+        let lump_sum = reduced(lump_sums * section_pay.pension, lump_factor);
+        let less = |had: Rounded, debit: u64| had.number.checked_sub(debit).ok_or(14_u64);
+        let reduced_ups = pension.ups() + section_pension.ups() + lump_sum.ups();
+        let debit_ups = scheme.debit.ups() + section.debit.ups();
         Ok(Outcome {
             refusal: 0,
             line: 0,
-            net_2015: less(reduced(self.pension_after_year(), factor), scheme.debit)?,
-            net_1995: less(reduced(pension, section_factor), section.debit)?,
-            net_lump_sum: less(
-                reduced(lump_sums * pension, lump_factor),
-                lump_sums * section.debit,
-            )?,
-            charge,
+            net_2015: less(pension, scheme.debit.number)?,
+            net_1995: less(section_pension, section.debit.number)?,
+            net_lump_sum: less(lump_sum, lump_sums * section.debit.number)?,
+            charge: section_pay.charge,
+            rounded_up: pension_2015.ups + section_pay.ups + reduced_ups + debit_ups,
         })
     }
 }

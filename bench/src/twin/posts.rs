@@ -1,6 +1,6 @@
 //! The posts of a year, ranked as they come.
 
-use super::{rounded, unless, LARGEST_PAY};
+use super::{rounded, unless, Rounded, LARGEST_PAY};
 
 /// The most posts of a year.
 const MOST_POSTS: usize = 16;
@@ -103,12 +103,13 @@ impl YearPosts {
 
     /// The aggregate. `give` is told the parts of each post that has any, by its place in the list.
     ///
-    /// A post in full adds its pay, so that only the one post that is cut has a fraction to round.
+    /// A post in full adds its pay, so that only the one post that is cut has a fraction to round,
+    /// and the way of that fraction is the way of the sum.
     #[inline(always)]
-    fn divide(&self, mut give: impl FnMut(usize, u64)) -> u64 {
+    fn divide(&self, mut give: impl FnMut(usize, u64)) -> Rounded {
         if let Some(post) = self.whole_time {
             give(usize::from(post.place), post.contracted() * self.minutes);
-            return post.pay();
+            return Rounded::exact(post.pay());
         }
         let mut left = self.parts;
         let mut aggregate = 0;
@@ -116,16 +117,18 @@ impl YearPosts {
             let full = post.contracted() * self.minutes;
             if full > left {
                 give(usize::from(post.place), left);
-                return aggregate + rounded(left * post.pay(), full);
+                let mut sum = rounded(left * post.pay(), full);
+                sum.number += aggregate;
+                return sum;
             }
             give(usize::from(post.place), full);
             aggregate += post.pay();
             left -= full;
         }
-        aggregate
+        Rounded::exact(aggregate)
     }
 
-    pub fn aggregate(&self) -> u64 {
+    pub fn aggregate(&self) -> Rounded {
         self.divide(|_, _| ())
     }
 }
@@ -156,7 +159,8 @@ pub fn posts(bytes: &[u8], places: &mut [u64]) -> (u64, u64) {
         Ok(posts) => {
             let places = &mut places[..posts.count];
             places.fill(0);
-            (0, posts.divide(|place, parts| places[place] = parts))
+            let aggregate = posts.divide(|place, parts| places[place] = parts);
+            (0, aggregate.number)
         }
         Err(refusal) => (refusal, 0),
     }
