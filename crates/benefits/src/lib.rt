@@ -16,7 +16,7 @@ ghost use Rattle.measures.specs.Limits.{highestPay, highestAggregate};
 ghost use Rattle.measures.specs.Rounding.{upward};
 ghost use Rattle.measures.specs.Answers.{answerRefusal, answerAmount, numberUnless};
 ghost use Rattle.benefits.specs.Limits.{highestRevaluation, highestAllowance, mostDays, highestChargeFactor, highestEarlyFactor, highestPot, highestAmount};
-ghost use Rattle.benefits.specs.Steps.{revalued, revaluedWay, accrued, accruedWay, afterYear, afterYearUps, bestPay, sectionPension, sectionPensionWay, lumpSum, reduced, reducedWay, pensionDebit, pensionDebitWay, lumpDebit, ofYear, payIn, controlled, raised, raisedWay, allowanceIn, allowedFrom, allowedFromWay, allowed3, allowed3Way, allowed2, allowed2Way, allowed1, allowed1Way, allowedIn, allowedUps, excess, chargeFrom, chargeFromUps, charge, chargeUps, abatement, paysWithin, termsWithin, finalPayRefusal, abatementRefusal, chargeAnswer, abatementAnswer};
+ghost use Rattle.benefits.specs.Steps.{revalued, revaluedWay, accrued, accruedWay, afterYear, afterYearUps, bestPay, sectionPension, sectionPensionWay, lumpSum, reduced, reducedWay, pensionDebit, pensionDebitWay, lumpDebit, ofYear, payIn, controlled, raised, raisedWay, allowanceIn, allowedFrom, allowedFromWay, allowed3, allowed3Way, allowed2, allowed2Way, allowed1, allowed1Way, allowedUps, excess, chargeFrom, chargeFromUps, charge, chargeUps, abatement, paysWithin, termsWithin, finalPayRefusal, abatementRefusal, chargeAnswer, abatementAnswer};
 ghost use Rattle.benefits.specs.Bounds.{FinalPayBounds};
 
 // The highest revaluation of a year, in ten-thousandths.

@@ -4,7 +4,6 @@ use mathlib.Core.Path.{_≡_, refl}
 use mathlib.Core.Bool.{Bool, true, false, cond}
 use lib.Dec.{eqb}
 use Rattle.measures.specs.Refusals.{unless, firstRefusal}
-use Rattle.measures.specs.Rounding.{upward}
 use Rattle.benefits.specs.Steps.{charge, chargeUps}
 use Rattle.rules.specs.declared.Amounts.{Amounts}
 use Rattle.rules.specs.declared.Outcome.{Outcome}

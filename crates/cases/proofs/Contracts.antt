@@ -1,4 +1,4 @@
--- What the methods of the running case promise, from the equations of the code with the state; demand 3 for the running case.
+-- What the methods of the running case promise, from the equations of the code with the state; demand 3 for the running case, and the bound of its count.
 use Prim.Native.Nat.{ℕ, _≤_}
 use mathlib.Core.Bool.{Bool, true, false, cond}
 use mathlib.Core.Path.{_≡_, refl, sym, _∙_, ap, subst}

@@ -1,5 +1,5 @@
 -- The printed case of document 01 with the byte that request 2.5 adds, by computation: its frames come to 66,667 pence of 2015 pension, one rounding
--- of which went up (the 54th of 3,600,000 is 66,666 2/3), so that nothing above is empty. Beside it a case of the 2008 Section.
+-- of which went up (the 54th of 3,600,000 is 66,666 2/3), so that nothing above is empty. Beside it a case of the 2008 Section, and what each step adds to the count.
 use Prim.Native.Nat.{ℕ}
 use mathlib.Core.Path.{_≡_, refl}
 use mathlib.Core.List.{List, [], _∷_}

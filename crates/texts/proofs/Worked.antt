@@ -1,4 +1,4 @@
--- Demand 3 for texts, by that of the running case; and a text beside the running case that is given its frames one by one.
+-- Demand 3 for texts and the bound of their count, by those of the running case; and a text beside the running case that is given its frames one by one.
 use Prim.Native.Nat.{ℕ, _+_, _≤_}
 use mathlib.Core.Path.{_≡_, refl, sym, _∙_}
 use mathlib.Core.List.{List, [], _∷_}

@@ -1,5 +1,4 @@
 -- `factors::reduced_if` meets its contract: nothing is reduced, and nothing rounded, at no months early.
-use mathlib.Core.Path.{sym}
 use Rattle.measures.proofs.Tests.{tests}
 use Rattle.rules.specs.Working.{reducedIf, reducedIfWay}
 use borrow.Author.Needs.{needs}

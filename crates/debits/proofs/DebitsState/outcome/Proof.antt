@@ -1,5 +1,4 @@
 -- `debits::DebitsState::outcome` meets its contract: the nets of the amounts and the debits.
-use native.Mathlib.Omega.{arith}
 use Rattle.debits.proofs.Debits.{debits-ups}
 use borrow.Author.Needs.{needs}
 use Rattle.debits.proofs.DebitsState.outcome.Statement.{statement}

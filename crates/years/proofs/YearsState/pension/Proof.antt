@@ -1,14 +1,11 @@
 -- `years::YearsState::pension` meets its contract: the aggregate pay of at most 16 posts is what a year's step takes; a year has three roundings.
-use Prim.Native.Nat.{ℕ, _≤_}
-use mathlib.Core.Path.{_≡_, _∙_, ap, ap₂}
+use Prim.Native.Nat.{ℕ}
+use mathlib.Core.Path.{_≡_, _∙_, ap}
 use mathlib.Core.Bool.{true}
 use lib.Dec.{eqb}
 use borrow.Author.Tests.{eq-eqb, ne-eqb}
-use Rattle.measures.specs.declared.Way.{Way}
 use Rattle.measures.specs.Rounding.{upward}
 use Rattle.measures.proofs.Rounding.{upward-most}
-use Rattle.posts.specs.Posts.{aggregatePay, aggregateWay}
-use Rattle.posts.specs.Year.{postsOf}
 use Rattle.benefits.specs.Steps.{afterYear, afterYearUps}
 use Rattle.benefits.proofs.Counts.{afterYearUps-most}
 use Rattle.years.specs.Years.{pensionNow, upsNow}
