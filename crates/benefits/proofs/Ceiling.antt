@@ -1,4 +1,4 @@
--- The pension after at most 50 years is at most 13,480,649,093,765 pence.
+-- The pension after at most 50 years is at most 26,961,298,242,272 pence.
 use mathlib.Core.Path.{_≡_, refl}
 use Prim.Native.Nat.{ℕ, zero, suc, _^_, _≤_}
 use native.Mathlib.Nat.{le-refl, le-of-suc-le-suc, not-suc-le-zero}
@@ -21,7 +21,7 @@ ceiling-mono zero k h = omega arith
 ceiling-mono (suc j) zero h = absurd (not-suc-le-zero h)
 ceiling-mono (suc j) (suc k) h = afterYear-mono (ceiling-mono j k (le-of-suc-le-suc h)) (le-refl highestRevaluation) (le-refl highestAggregate)
 
-pub ceiling-fifty : ceiling 50 ≡ 13480649093765
+pub ceiling-fifty : ceiling 50 ≡ 26961298242272
 unfolding ceiling afterYear revalued accrued rounded
 ceiling-fifty = refl
 

@@ -15,7 +15,7 @@ pub revalued-limit : (p r : ℕ) → p ≤ 2 ^ 50 → r ≤ highestRevaluation �
 unfolding revalued
 revalued-limit p r h k = rounded-bound _ (2 ^ 51) 10000 (omega arith) (omega (arith, rise 10000 h k))
 
-pub accrued-limit : (a : ℕ) → a ≤ highestAggregate → accrued a ≤ 296296296
+pub accrued-limit : (a : ℕ) → a ≤ highestAggregate → accrued a ≤ 592592593
 unfolding accrued rounded
 accrued-limit a h = omega arith
 

@@ -5,13 +5,14 @@ use lib.ListN.{getD}
 use Rattle.posts.specs.declared.Post.{Post}
 use Rattle.posts.specs.Posts.{postOf}
 
--- the post whose h, w and p are the numbers from a place on
+-- the post whose h, w, p and s are the numbers from a place on
 abbrev pub postFrom : List ℕ → ℕ → Post
-postFrom numbers at = postOf (getD numbers at 0) (getD numbers (at + 1) 0) (getD numbers (at + 2) 0)
+postFrom numbers at = postOf (getD numbers at 0) (getD numbers (at + 1) 0) (getD numbers (at + 2) 0) (getD numbers (at + 3) 0)
 
--- the posts of three numbers h, w, p each
+-- the posts of four numbers h, w, p, s each
 unfoldable pub postsOfNumbers : List ℕ → List Post
 postsOfNumbers [] = []
 postsOfNumbers (h ∷ []) = []
 postsOfNumbers (h ∷ w ∷ []) = []
-postsOfNumbers (h ∷ w ∷ p ∷ more) = postOf h w p ∷ postsOfNumbers more
+postsOfNumbers (h ∷ w ∷ p ∷ []) = []
+postsOfNumbers (h ∷ w ∷ p ∷ s ∷ more) = postOf h w p s ∷ postsOfNumbers more

@@ -16,27 +16,28 @@ ghost use mathlib.Core.Path.{_≡_};
 ghost use lib.ListN.{drop};
 ghost use Rattle.figures.specs.Posts.{postFrom, postsOfNumbers};
 
-// The post whose h, w and p are the numbers from a place on.
-fn post(n: &[u64; 52], at: usize) -> Post
-    requires { ⌜ at < 50 ⌝ }
+// The post whose h, w, p and s are the numbers from a place on.
+fn post(n: &[u64; 69], at: usize) -> Post
+    requires { ⌜ at < 66 ⌝ }
     ensures { λ r. ⌜ r ≡ postFrom (now (n .entry)) at ⌝ }
 {
     Post {
         contracted: Minutes(n[at]),
         whole: Minutes(n[at + 1]),
         pay: Pence(n[at + 2]),
+        supplement: Pence(n[at + 3]),
     }
 }
 
-// The posts of three numbers each after the first number.
-fn posts_in(numbers: [u64; 52]) -> [Post; TOO_MANY_POSTS]
+// The posts of four numbers each after the first number.
+fn posts_in(numbers: [u64; 69]) -> [Post; TOO_MANY_POSTS]
     ensures { λ r. ⌜ r ≡ postsOfNumbers (drop 1 numbers) ⌝ }
 {
     let first = post(&numbers, 1);
     let mut list = [first; TOO_MANY_POSTS];
     let mut i: usize = 0;
     while i < TOO_MANY_POSTS {
-        list[i] = post(&numbers, 3 * i + 1);
+        list[i] = post(&numbers, 4 * i + 1);
         i += 1;
     }
     list
@@ -69,24 +70,24 @@ fn on_bytes(label: &[u8], bytes: &[u8], n: u64) {
     places(&list, lent);
 }
 
-// The posts call on posts of three numbers each, after the number of places lent.
+// The posts call on posts of four numbers each, after the number of places lent.
 pub fn on_posts(label: &[u8], words: &[u8]) {
-    let mut numbers = [0u64; 52];
+    let mut numbers = [0u64; 69];
     let count = numbers_in(words, &mut numbers);
     let bytes = spelled(posts_in(numbers));
-    let n = BYTES_OF_POST * (count / 3);
+    let n = BYTES_OF_POST * (count / 4);
     on_bytes(label, &bytes[..n], numbers[0]);
 }
 
 // The call on such posts as records, with every place, those that are not lent too; then on a line of its own the posts call on them.
 pub fn on_records(label: &[u8], words: &[u8]) {
-    let mut numbers = [0u64; 52];
+    let mut numbers = [0u64; 69];
     let count = numbers_in(words, &mut numbers);
     let mut list = [9u64; 18];
     let lent = lent_places(numbers[0]);
     lines::answer(
         label,
-        records_front_call(posts_in(numbers), count / 3, &mut list[..lent]),
+        records_front_call(posts_in(numbers), count / 4, &mut list[..lent]),
     );
     places(&list, 18);
     io::write_all(1, b"\n");

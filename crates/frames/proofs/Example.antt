@@ -1,9 +1,13 @@
--- Request 2.5 by computation: each section with each of four ages, causes of 5 beside another age, and frames of other lengths.
+-- Request 2.5 by computation: each section with each of four ages, causes of 5 beside another age, and frames of other lengths; of
+-- request 2.7 posts of other lengths.
 use Prim.Native.Nat.{ℕ}
 use mathlib.Core.Path.{_≡_, refl}
 use mathlib.Core.List.{List, [], _∷_}
-use Rattle.fields.specs.Fields.{oneAt, twoAt}
+use Rattle.fields.specs.Fields.{oneAt, twoAt, fourAt}
 use Rattle.calendar.specs.Dates.{isLeap, monthLength, dateStands, isBefore, datesRefusal}
+use Rattle.posts.specs.Posts.{postOf}
+use Rattle.posts.specs.Call.{postAt}
+use Rattle.frames.specs.declared.Frame.{Frame}
 use Rattle.frames.specs.declared.Decoded.{Decoded}
 use Rattle.frames.specs.Frames.{dateAt, memberIn, frameLength, frameOf, decoded}
 use Rattle.frames.specs.Limits.{memberRefusal}
@@ -43,3 +47,16 @@ otherLengths =
 pub lengths-shown : otherLengths ≡ Decoded.Refused 3 ∷ Decoded.Refused 3 ∷ []
 unfolding oneAt frameLength frameOf decoded
 lengths-shown = refl
+
+-- a post of the earlier length, of a byte less and of a byte more than its length, and a post with its supplement
+abbrev pub posts : List Decoded
+posts =
+    decoded (3 ∷ 5 ∷ 220 ∷ 8 ∷ 202 ∷ 0 ∷ 39 ∷ 172 ∷ 64 ∷ [])
+    ∷ decoded (3 ∷ 5 ∷ 220 ∷ 8 ∷ 202 ∷ 0 ∷ 39 ∷ 172 ∷ 64 ∷ 0 ∷ 3 ∷ 13 ∷ [])
+    ∷ decoded (3 ∷ 5 ∷ 220 ∷ 8 ∷ 202 ∷ 0 ∷ 39 ∷ 172 ∷ 64 ∷ 0 ∷ 3 ∷ 13 ∷ 64 ∷ 0 ∷ [])
+    ∷ decoded (3 ∷ 5 ∷ 220 ∷ 8 ∷ 202 ∷ 0 ∷ 39 ∷ 172 ∷ 64 ∷ 0 ∷ 3 ∷ 13 ∷ 64 ∷ [])
+    ∷ []
+
+pub post-lengths-shown : posts ≡ Decoded.Refused 3 ∷ Decoded.Refused 3 ∷ Decoded.Refused 3 ∷ Decoded.Frame (Frame.Post (postOf 1500 2250 2600000 200000)) ∷ []
+unfolding oneAt twoAt fourAt postAt frameLength frameOf decoded
+post-lengths-shown = refl

@@ -1,4 +1,4 @@
--- Document 01, "Frames", with the frame of request 2.4 and the last byte of 2.5: the frame that bytes are. "fields are unsigned, big-endian, widths in bytes"
+-- Document 01, "Frames", with the frame of request 2.4, the last byte of 2.5 and the supplement of 2.7: the frame that bytes are. "fields are unsigned, big-endian, widths in bytes"
 use Prim.Native.Nat.{ℕ, _+_, _*_}
 use mathlib.Core.Bool.{cond}
 use mathlib.Core.List.{List}
@@ -42,7 +42,7 @@ memberIn bytes =
 unfoldable pub yearIn : List ℕ → Year
 yearIn bytes = record { april = twoAt bytes 1; revaluation = twoAt bytes 3 }
 
--- "03 post: h 2, w 2, p 4."
+-- "03 post: h 2, w 2, p 4."; "A post gains a supplement s of 4 bytes at its end"
 abbrev pub postIn : List ℕ → Post
 postIn bytes = postAt bytes 1
 

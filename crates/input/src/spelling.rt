@@ -26,7 +26,7 @@ fn put_four(bytes: &mut [u8], at: usize, n: u64)
     put_two(bytes, at + 2, n);
 }
 
-// Puts a post, h 2, w 2, p 4 bytes, at a place.
+// Puts a post, h 2, w 2, p 4, s 4 bytes, at a place.
 fn put_post(bytes: &mut [u8], at: usize, x: Post)
     requires { ⌜ at + bytesOfPost ≤ length (now bytes) ⌝ }
     ensures { λ _. ⌜ now (bytes .exit) ≡ putAt (postBytes x) at (now (bytes .entry)) ⌝ }
@@ -34,6 +34,7 @@ fn put_post(bytes: &mut [u8], at: usize, x: Post)
     put_two(bytes, at, x.contracted.0);
     put_two(bytes, at + 2, x.whole.0);
     put_four(bytes, at + 4, x.pay.0);
+    put_four(bytes, at + 8, x.supplement.0);
 }
 
 // The posts of a list in bytes.

@@ -6,6 +6,9 @@ ghost use Rattle.measures.specs.Rounding.{rounded, way, upward};
 // The highest yearly pay that is taken, in pence.
 pub const HIGHEST_PAY: u64 = 1000000000;
 
+// The highest yearly supplement of a post that is taken, in pence.
+pub const HIGHEST_SUPPLEMENT: u64 = 1000000000;
+
 // A time under contract, in minutes.
 pub struct Minutes(pub u64);
 

@@ -1,11 +1,13 @@
--- The aggregate pay of a year's posts: no allowed division of the parts has a larger one, and one rounded fraction is enough to compute it and its way.
+-- The aggregate pay of a year's posts: no allowed division of the parts is worth more, and one rounded fraction is enough to compute it and its way.
 use mathlib.Core.Path.{_≡_, refl, sym, _∙_, ap, ap₂, subst}
 use mathlib.Core.Bool.{Bool, true, false, cond}
 use mathlib.Core.List.{List, [], _∷_}
 use mathlib.Core.Logic.{⊎-elim}
 use Prim.Native.Nat.{ℕ, _+_, _*_, _-_, _≤_, _<_, min}
-use native.Mathlib.Nat.{mul-le-mul-right, mul-comm, zero-mul, le-refl, le-of-eq, mul-pos}
+use native.Mathlib.Nat.{mul-le-mul-right, mul-le-mul-left, zero-mul, le-refl, le-of-eq, le-trans, mul-pos}
 use native.Mathlib.Omega.{arith}
+use lib.Dec.{eqb}
+use borrow.Author.Tests.{eq-eqb, ne-eqb, eqb-true}
 use Rattle.measures.specs.Lists.{All}
 use Rattle.measures.proofs.Tests.{le-or-lt}
 use Rattle.measures.specs.declared.Way.{Way}
@@ -14,17 +16,25 @@ use Rattle.measures.proofs.Rounding.{rounded-mono, rounded-add, rounded-scale, 
 use Rattle.posts.specs.declared.Post.{Post}
 use Rattle.posts.specs.Division.{Claim, IsRate, numerator, denominator, Within, nothing, more, AllowedParts, division}
 use Rattle.posts.specs.Paid.{paid, eitherWay, paidWay}
-use Rattle.posts.specs.Posts.{h, p, HasMinutes, contractedMinutes, weightedParts, claim, claims, aggregate, aggregatePay, aggregateWay, wholeTime, anyWholeTime, wholeTimeParts, parts, Rival, RivalIf}
+use Rattle.posts.specs.Posts.{h, w, p, s, HasMinutes, NoSupplement, contractedMinutes, weightedParts, rateOver, rateUnder, claims, counted, countedTogether, sumUnder, aggregate, aggregatePay, aggregateWay, wholeTime, anyWholeTime, wholeTimeParts, parts, Rival, RivalIf}
 use Rattle.posts.proofs.Filling.{Filled, done, over, under, level, seen}
 use Rattle.posts.proofs.Optimum.{optimal-division, division-allowed, shares-within}
 
+pub rate-under-pos : (x : Post) → HasMinutes x → 0 < rateUnder x
+rate-under-pos x k = let week : 0 < w x = omega (arith, k .0, k .1) in mul-pos week (k .0)
+
 pub rated : (H : ℕ) (xs : List Post) → All HasMinutes xs → All IsRate (claims H xs)
-rated H [] w = tt
-rated H (x ∷ xs) w = (w .0, rated H xs (w .1))
+rated H [] k = tt
+rated H (x ∷ xs) k = (rate-under-pos x (k .0), rated H xs (k .1))
 
 denominator-pos : (xs : List Claim) → All IsRate xs → 0 < denominator xs
-denominator-pos [] w = omega arith
-denominator-pos (x ∷ xs) w = mul-pos (w .0) (denominator-pos xs (w .1))
+denominator-pos [] k = omega arith
+denominator-pos (x ∷ xs) k = mul-pos (k .0) (denominator-pos xs (k .1))
+
+sum-under-pos : (x : Post) (xs : List Post) → All HasMinutes (x ∷ xs) → 0 < sumUnder (x ∷ xs)
+sum-under-pos x xs k =
+    let some : 0 < contractedMinutes (x ∷ xs) = omega (arith, k .0 .0) in
+    mul-pos (denominator-pos (claims (contractedMinutes (x ∷ xs)) (x ∷ xs)) (rated (contractedMinutes (x ∷ xs)) (x ∷ xs) k)) some
 
 -- ---- a fraction's number and its way
 
@@ -48,159 +58,200 @@ either-exact Way.Exact = refl
 either-exact Way.Down = refl
 either-exact Way.Up = refl
 
--- ---- the closed form: each claim's worth for its parts rounded by itself, where one of these at most is no whole number before
+-- ---- the closed form: what each post counts for its parts rounded by itself, where one of these at most is no whole number before
 -- it is rounded
 
--- a claim's worth for its parts is a whole number
-abbrev Whole : ℕ → Claim → ℕ → Type 0
-Whole H x a = (m : ℕ) × (a * x .n ≡ m * (x .d * H))
+-- what a post counts is a whole number
+abbrev Whole : ℕ → Post → ℕ → Type 0
+Whole H x a = (m : ℕ) × (counted H x a ≡ m * (rateUnder x * H))
 
-abbrev Wholes : ℕ → List Claim → List ℕ → Type 0
+abbrev Wholes : ℕ → List Post → List ℕ → Type 0
 Wholes H [] cs = Unit {0}
 Wholes H (x ∷ xs) [] = Unit {0}
 Wholes H (x ∷ xs) (a ∷ cs) = Whole H x a × Wholes H xs cs
 
--- for all claims but one at most
-data Lone (H : ℕ) : List Claim → List ℕ → Type 0 where
+-- for all posts but one at most
+data Lone (H : ℕ) : List Post → List ℕ → Type 0 where
   none : Lone H [] []
-  skip : {x : Claim} {xs : List Claim} {a : ℕ} {cs : List ℕ} → Whole H x a → Lone H xs cs → Lone H (x ∷ xs) (a ∷ cs)
-  this : {x : Claim} {xs : List Claim} {a : ℕ} {cs : List ℕ} → Wholes H xs cs → Lone H (x ∷ xs) (a ∷ cs)
+  skip : {x : Post} {xs : List Post} {a : ℕ} {cs : List ℕ} → Whole H x a → Lone H xs cs → Lone H (x ∷ xs) (a ∷ cs)
+  this : {x : Post} {xs : List Post} {a : ℕ} {cs : List ℕ} → Wholes H xs cs → Lone H (x ∷ xs) (a ∷ cs)
 
 module _ (H : ℕ) (pH : 0 < H) where
-  head-whole : (x : Claim) (a : ℕ) → IsRate x → (k : Whole H x a) → Rounds (a * x .n) (x .d * H) (k .0) Way.Exact
-  head-whole x a pd k = rounds-whole (a * x .n) (k .0) (x .d * H) (mul-pos pd pH) (k .1)
+  abbrev D : List Post → ℕ
+  D xs = denominator (claims H xs)
 
-  wholes-sum : (xs : List Claim) (cs : List ℕ) → All IsRate xs → Wholes H xs cs → (numerator xs cs ≡ paid H xs cs * (denominator xs * H)) × (paidWay H xs cs ≡ Way.Exact)
-  unfolding paid paidWay eitherWay
-  wholes-sum [] cs r k = (omega arith, refl)
-  wholes-sum (x ∷ xs) [] r k = (omega arith, refl)
-  wholes-sum (x ∷ xs) (a ∷ cs) r k =
-      let head = head-whole x a (r .0) (k .0) in
-      let rest = wholes-sum xs cs (r .1) (k .1) in
-      (rw (head .0) (omega (arith, ap (λ (n : ℕ). n * denominator xs) (k .0 .1), ap (λ (n : ℕ). n * x .d) (rest .0))), ap₂ eitherWay (head .1) (rest .1))
+  D-pos : (xs : List Post) → All HasMinutes xs → 0 < D xs
+  D-pos xs k = denominator-pos (claims H xs) (rated H xs k)
 
-  lone-rounds : (xs : List Claim) (cs : List ℕ) → All IsRate xs → Lone H xs cs → Rounds (numerator xs cs) (denominator xs * H) (paid H xs cs) (paidWay H xs cs)
-  unfolding paid paidWay eitherWay
-  lone-rounds [] [] r none = rounds-whole 0 0 (1 * H) (omega arith) (omega arith)
-  lone-rounds (x ∷ xs) (a ∷ cs) r (skip k l) =
-      let head = head-whole x a (r .0) k in
-      let sum : a * x .n * denominator xs + numerator xs cs * x .d ≡ k .0 * (denominator xs * H * x .d) + numerator xs cs * x .d = omega (arith, ap (λ (n : ℕ). n * denominator xs) (k .1)) in
-      let order : x .d * denominator xs * H ≡ denominator xs * H * x .d = omega arith in
+  head-whole : (x : Post) (a : ℕ) → HasMinutes x → (k : Whole H x a) → Rounds (counted H x a) (rateUnder x * H) (k .0) Way.Exact
+  head-whole x a u k = rounds-whole (counted H x a) (k .0) (rateUnder x * H) (mul-pos (rate-under-pos x u) pH) (k .1)
+
+  wholes-sum : (xs : List Post) (cs : List ℕ) → All HasMinutes xs → Wholes H xs cs → (countedTogether H xs cs ≡ paid H xs cs * (D xs * H)) × (paidWay H xs cs ≡ Way.Exact)
+  unfolding countedTogether paid paidWay eitherWay
+  wholes-sum [] cs u k = (omega arith, refl)
+  wholes-sum (x ∷ xs) [] u k = (omega arith, refl)
+  wholes-sum (x ∷ xs) (a ∷ cs) u k =
+      let head = head-whole x a (u .0) (k .0) in
+      let rest = wholes-sum xs cs (u .1) (k .1) in
+      (rw (head .0) (omega (arith, ap (λ (n : ℕ). n * D xs) (k .0 .1), ap (λ (n : ℕ). n * rateUnder x) (rest .0))), ap₂ eitherWay (head .1) (rest .1))
+
+  lone-rounds : (xs : List Post) (cs : List ℕ) → All HasMinutes xs → Lone H xs cs → Rounds (countedTogether H xs cs) (D xs * H) (paid H xs cs) (paidWay H xs cs)
+  unfolding countedTogether paid paidWay eitherWay
+  lone-rounds [] [] u none = rounds-whole 0 0 (1 * H) (omega arith) (omega arith)
+  lone-rounds (x ∷ xs) (a ∷ cs) u (skip k l) =
+      let head = head-whole x a (u .0) k in
+      let sum : counted H x a * D xs + countedTogether H xs cs * rateUnder x ≡ k .0 * (D xs * H * rateUnder x) + countedTogether H xs cs * rateUnder x = omega (arith, ap (λ (n : ℕ). n * D xs) (k .1)) in
+      let order : rateUnder x * D xs * H ≡ D xs * H * rateUnder x = omega arith in
       rw (sum, order, head .0, head .1)
-      (rounds-rest (k .0) _ (denominator xs * H) (x .d) _ _ (mul-pos (denominator-pos xs (r .1)) pH) (r .0) (lone-rounds xs cs (r .1) l))
-  lone-rounds (x ∷ xs) (a ∷ cs) r (this k) =
-      let rest = wholes-sum xs cs (r .1) k in
-      let sum : a * x .n * denominator xs + numerator xs cs * x .d ≡ paid H xs cs * (x .d * H * denominator xs) + a * x .n * denominator xs = omega (arith, ap (λ (n : ℕ). n * x .d) (rest .0)) in
-      let order : x .d * denominator xs * H ≡ x .d * H * denominator xs = omega arith in
-      let turned : rounded (a * x .n) (x .d * H) + paid H xs cs ≡ paid H xs cs + rounded (a * x .n) (x .d * H) = omega arith in
-      rw (sum, order, turned, rest .1, either-exact (way (a * x .n) (x .d * H)))
-      (rounds-rest (paid H xs cs) (a * x .n) (x .d * H) (denominator xs) _ _ (mul-pos (r .0) pH) (denominator-pos xs (r .1)) (refl, refl))
+      (rounds-rest (k .0) _ (D xs * H) (rateUnder x) _ _ (mul-pos (D-pos xs (u .1)) pH) (rate-under-pos x (u .0)) (lone-rounds xs cs (u .1) l))
+  lone-rounds (x ∷ xs) (a ∷ cs) u (this k) =
+      let rest = wholes-sum xs cs (u .1) k in
+      let sum : counted H x a * D xs + countedTogether H xs cs * rateUnder x ≡ paid H xs cs * (rateUnder x * H * D xs) + counted H x a * D xs = omega (arith, ap (λ (n : ℕ). n * rateUnder x) (rest .0)) in
+      let order : rateUnder x * D xs * H ≡ rateUnder x * H * D xs = omega arith in
+      let turned : rounded (counted H x a) (rateUnder x * H) + paid H xs cs ≡ paid H xs cs + rounded (counted H x a) (rateUnder x * H) = omega arith in
+      rw (sum, order, turned, rest .1, either-exact (way (counted H x a) (rateUnder x * H)))
+      (rounds-rest (paid H xs cs) (counted H x a) (rateUnder x * H) (D xs) _ _ (mul-pos (rate-under-pos x (u .0)) pH) (D-pos xs (u .1)) (refl, refl))
 
--- ---- of a year's parts one at most is worth no whole number
+-- ---- of a year's posts one at most counts no whole number
 
--- all the parts that a claim may have are h × H, at the rate p/h, H parts to a minute
-abbrev Minuted : ℕ → Claim → Type 0
-Minuted H x = x .most ≡ x .d * H
+full : (H : ℕ) (x : Post) (a : ℕ) → a ≡ h x * H → Whole H x a
+unfolding counted
+full H x a e = (p x + s x, rw (eq-eqb a (h x * H) e) refl)
 
-minuted : (H : ℕ) (xs : List Post) → All (Minuted H) (claims H xs)
-minuted H [] = tt
-minuted H (x ∷ xs) = (refl, minuted H xs)
-
-full : (H : ℕ) (x : Claim) (a : ℕ) → Minuted H x → a ≡ x .most → Whole H x a
-full H x a m e = (x .n, ap (λ (k : ℕ). k * x .n) (e ∙ m) ∙ omega arith)
-
-nought : (H : ℕ) (x : Claim) (a : ℕ) → a ≡ 0 → Whole H x a
-nought H x a e = (0, ap (λ (k : ℕ). k * x .n) e ∙ omega arith)
+nought : (H : ℕ) (x : Post) (a : ℕ) → a ≡ 0 → Whole H x a
+unfolding counted
+nought H x a e = by (eqb a (h x * H))
+  where
+    by : (t : Bool) → (m : ℕ) × (cond t ((p x + s x) * (rateUnder x * H)) (a * rateOver x) ≡ m * (rateUnder x * H))
+    by true = (p x + s x, refl)
+    by false = (0, ap (λ (k : ℕ). k * rateOver x) e ∙ omega arith)
 
 module _ (H K : ℕ) (c : Claim) where
   -- once K is used up, only whole numbers follow
-  filled-wholes : {s : ℕ} {xs : List Claim} {cs : List ℕ} → All (Minuted H) xs → Filled K c s xs cs → K ≤ s → Wholes H xs cs
-  filled-wholes m done g = tt
-  filled-wholes m (over {x = x} k f) g = (full H x _ (m .0) refl, filled-wholes (m .1) f g)
-  filled-wholes m (under {x = x} k f) g = (nought H x _ refl, filled-wholes (m .1) f g)
-  filled-wholes m (level {s = s} {x = x} k k' f) g = (nought H x (min (x .most) (K - s)) (omega arith), filled-wholes (m .1) f (omega arith))
+  filled-wholes : {t : ℕ} (xs : List Post) {cs : List ℕ} → Filled K c t (claims H xs) cs → K ≤ t → Wholes H xs cs
+  filled-wholes [] done g = tt
+  filled-wholes (x ∷ xs) (over k f) g = (full H x _ refl, filled-wholes xs f g)
+  filled-wholes (x ∷ xs) (under k f) g = (nought H x _ refl, filled-wholes xs f g)
+  filled-wholes (x ∷ xs) (level {s = t} k k' f) g = (nought H x (min (h x * H) (K - t)) (omega arith), filled-wholes xs f (omega arith))
 
-  filled-lone : {s : ℕ} {xs : List Claim} {cs : List ℕ} → All (Minuted H) xs → Filled K c s xs cs → Lone H xs cs
-  filled-lone m done = none
-  filled-lone m (over {x = x} k f) = skip (full H x _ (m .0) refl) (filled-lone (m .1) f)
-  filled-lone m (under {x = x} k f) = skip (nought H x _ refl) (filled-lone (m .1) f)
-  filled-lone m (level {s = s} {x = x} k k' f) =
+  filled-lone : {t : ℕ} (xs : List Post) {cs : List ℕ} → Filled K c t (claims H xs) cs → Lone H xs cs
+  filled-lone [] done = none
+  filled-lone (x ∷ xs) (over k f) = skip (full H x _ refl) (filled-lone xs f)
+  filled-lone (x ∷ xs) (under k f) = skip (nought H x _ refl) (filled-lone xs f)
+  filled-lone (x ∷ xs) (level {s = t} k k' f) =
       ⊎-elim
-      (λ (g : K ≤ s + x .most). this (filled-wholes (m .1) f g))
-      (λ (g : s + x .most < K). skip (full H x (min (x .most) (K - s)) (m .0) (omega arith)) (filled-lone (m .1) f))
-      (le-or-lt K (s + x .most))
+      (λ (g : K ≤ t + h x * H). this (filled-wholes xs f g))
+      (λ (g : t + h x * H < K). skip (full H x (min (h x * H) (K - t)) (omega arith)) (filled-lone xs f))
+      (le-or-lt K (t + h x * H))
 
-whole-lone : (H : ℕ) (xs : List Post) → Lone H (claims H xs) (wholeTimeParts H xs)
+whole-lone : (H : ℕ) (xs : List Post) → Lone H xs (wholeTimeParts H xs)
 whole-lone H [] = none
 whole-lone H (x ∷ xs) = skip (by (wholeTime x)) (whole-lone H xs)
   where
-    by : (b : Bool) → Whole H (claim H x) (cond b (h x * H) 0)
-    by true = full H (claim H x) (h x * H) refl refl
-    by false = nought H (claim H x) 0 refl
+    by : (b : Bool) → Whole H x (cond b (h x * H) 0)
+    by true = full H x (h x * H) refl
+    by false = nought H x 0 refl
 
-parts-lone : (xs : List Post) → All HasMinutes xs → Lone (contractedMinutes xs) (claims (contractedMinutes xs) xs) (parts xs)
-parts-lone xs w = by (anyWholeTime xs)
+parts-lone : (xs : List Post) → All HasMinutes xs → Lone (contractedMinutes xs) xs (parts xs)
+parts-lone xs k = by (anyWholeTime xs)
   where
     H : ℕ
     H = contractedMinutes xs
 
-    by : (b : Bool) → Lone H (claims H xs) (cond b (wholeTimeParts H xs) (division (weightedParts xs) (claims H xs)))
+    by : (b : Bool) → Lone H xs (cond b (wholeTimeParts H xs) (division (weightedParts xs) (claims H xs)))
     by true = whole-lone H xs
-    by false = let s = seen (weightedParts xs) (claims H xs) (rated H xs w) in filled-lone H (weightedParts xs) (s .c) (minuted H xs) (s .filled)
+    by false = let t = seen (weightedParts xs) (claims H xs) (rated H xs k) in filled-lone H (weightedParts xs) (t .c) xs (t .filled)
 
 -- ---- the theorems
 
 parts-rounds : (xs : List Post) → All HasMinutes xs
-    → Rounds (numerator (claims (contractedMinutes xs) xs) (parts xs)) (denominator (claims (contractedMinutes xs) xs) * contractedMinutes xs)
-    (paid (contractedMinutes xs) (claims (contractedMinutes xs) xs) (parts xs)) (paidWay (contractedMinutes xs) (claims (contractedMinutes xs) xs) (parts xs))
-unfolding paid paidWay rounded way
-parts-rounds [] w = (refl, refl)
-parts-rounds (x ∷ xs) w = lone-rounds (contractedMinutes (x ∷ xs)) (omega arith) _ _ (rated _ (x ∷ xs) w) (parts-lone (x ∷ xs) w)
+    → Rounds (countedTogether (contractedMinutes xs) xs (parts xs)) (sumUnder xs) (paid (contractedMinutes xs) xs (parts xs)) (paidWay (contractedMinutes xs) xs (parts xs))
+unfolding countedTogether paid paidWay rounded way
+parts-rounds [] k = (refl, refl)
+parts-rounds (x ∷ xs) k = lone-rounds (contractedMinutes (x ∷ xs)) (omega (arith, k .0 .0)) (x ∷ xs) _ k (parts-lone (x ∷ xs) k)
 
-pub aggregate-closed : (xs : List Post) → All HasMinutes xs → aggregatePay xs ≡ paid (contractedMinutes xs) (claims (contractedMinutes xs) xs) (parts xs)
-unfolding aggregate aggregatePay
-aggregate-closed xs w = parts-rounds xs w .0
+pub aggregate-closed : (xs : List Post) → All HasMinutes xs → aggregatePay xs ≡ paid (contractedMinutes xs) xs (parts xs)
+unfolding aggregatePay
+aggregate-closed xs k = parts-rounds xs k .0
 
-pub way-closed : (xs : List Post) → All HasMinutes xs → aggregateWay xs ≡ paidWay (contractedMinutes xs) (claims (contractedMinutes xs) xs) (parts xs)
+pub way-closed : (xs : List Post) → All HasMinutes xs → aggregateWay xs ≡ paidWay (contractedMinutes xs) xs (parts xs)
 unfolding aggregateWay
-way-closed xs w = parts-rounds xs w .1
+way-closed xs k = parts-rounds xs k .1
 
 -- the parts of a year without a whole-time post
 pub parts-part-time : (xs : List Post) → anyWholeTime xs ≡ false → parts xs ≡ division (weightedParts xs) (claims (contractedMinutes xs) xs)
 parts-part-time xs e = ap (λ (b : Bool). cond b (wholeTimeParts (contractedMinutes xs) xs) (division (weightedParts xs) (claims (contractedMinutes xs) xs))) e
 
--- on exact fractions before rounding: every allowed division's numerator, over the one denominator, is at most ours
+-- on exact fractions before rounding: in minutes times rate every allowed division is worth at most what ours is
 pub optimal-exact : (xs : List Post) (qs : List ℕ) → All HasMinutes xs → Rival xs qs → numerator (claims (contractedMinutes xs) xs) qs ≤ numerator (claims (contractedMinutes xs) xs) (parts xs)
-optimal-exact xs qs w r = by (anyWholeTime xs) refl r
+optimal-exact xs qs k r = by (anyWholeTime xs) refl r
   where
     H : ℕ
     H = contractedMinutes xs
 
     by : (b : Bool) → anyWholeTime xs ≡ b → RivalIf b xs qs → numerator (claims H xs) qs ≤ numerator (claims H xs) (parts xs)
-    by true e k = le-of-eq (ap (numerator (claims H xs)) k)
-    by false e k =
+    by true e r = le-of-eq (ap (numerator (claims H xs)) r)
+    by false e r =
         subst (λ (z : List ℕ). numerator (claims H xs) qs ≤ numerator (claims H xs) z) (sym (parts-part-time xs e))
-        (optimal-division (weightedParts xs) (claims H xs) qs (rated H xs w) k)
+        (optimal-division (weightedParts xs) (claims H xs) qs (rated H xs k) r)
 
--- every allowed division of a year's parts has an aggregate no larger than ours
-pub optimal : (xs : List Post) (qs : List ℕ) → All HasMinutes xs → Rival xs qs → aggregate xs qs ≤ aggregatePay xs
-unfolding aggregate aggregatePay
-optimal [] qs w r = le-refl _
-optimal (x ∷ xs) qs w r =
-    rounded-mono (denominator (claims H (x ∷ xs)) * H) (mul-pos (denominator-pos (claims H (x ∷ xs)) (rated H (x ∷ xs) w)) (omega arith)) (optimal-exact (x ∷ xs) qs w r)
+-- a post counts at least its minutes times its rate: in full more where it has a supplement and is not whole-time
+counted-least : (H : ℕ) (x : Post) (q : ℕ) → HasMinutes x → q * rateOver x ≤ counted H x q
+unfolding counted
+counted-least H x q k = by (eqb q (h x * H)) refl
   where
-    H : ℕ
-    H = contractedMinutes (x ∷ xs)
+    by : (t : Bool) → eqb q (h x * H) ≡ t → q * rateOver x ≤ cond t ((p x + s x) * (rateUnder x * H)) (q * rateOver x)
+    by true e = omega (arith, ap (λ (n : ℕ). n * rateOver x) (eqb-true q (h x * H) e), mul-le-mul-left (s x * h x * H) (k .1))
+    by false e = le-refl _
+
+-- so any division counts at least what it is worth in minutes times rate
+pub worth-counted : (H : ℕ) (xs : List Post) (qs : List ℕ) → All HasMinutes xs → numerator (claims H xs) qs ≤ countedTogether H xs qs
+unfolding countedTogether
+worth-counted H [] qs k = omega arith
+worth-counted H (x ∷ xs) [] k = omega arith
+worth-counted H (x ∷ xs) (q ∷ qs) k =
+    omega (arith, mul-le-mul-right (denominator (claims H xs)) (counted-least H x q (k .0)), mul-le-mul-right (rateUnder x) (worth-counted H xs qs (k .1)))
+
+-- no allowed division of a year's parts, valued in minutes times rate, is worth more than our aggregate
+pub optimal : (xs : List Post) (qs : List ℕ) → All HasMinutes xs → Rival xs qs → aggregate xs qs ≤ aggregatePay xs
+unfolding aggregate aggregatePay countedTogether
+optimal [] qs k r = le-refl _
+optimal (x ∷ xs) qs k r =
+    rounded-mono (sumUnder (x ∷ xs)) (sum-under-pos x xs k) (le-trans (optimal-exact (x ∷ xs) qs k r) (worth-counted (contractedMinutes (x ∷ xs)) (x ∷ xs) (parts (x ∷ xs)) k))
 
 -- our own parts are one of the divisions that a rival may pick, so the largest aggregate is attained
 pub parts-allowed : (xs : List Post) → All HasMinutes xs → Rival xs (parts xs)
-parts-allowed xs w = by (anyWholeTime xs) refl
+parts-allowed xs k = by (anyWholeTime xs) refl
   where
     by : (b : Bool) → anyWholeTime xs ≡ b → RivalIf b xs (parts xs)
     by true e = refl
     by false e =
         subst (λ (z : List ℕ). AllowedParts (weightedParts xs) (claims (contractedMinutes xs) xs) z) (sym (parts-part-time xs e))
-        (division-allowed (weightedParts xs) (claims (contractedMinutes xs) xs) (rated (contractedMinutes xs) xs w))
+        (division-allowed (weightedParts xs) (claims (contractedMinutes xs) xs) (rated (contractedMinutes xs) xs k))
+
+-- without a supplement a year counts what its parts are worth in minutes times rate
+module _ (H : ℕ) where
+  plain-counted : (x : Post) (q : ℕ) → NoSupplement x → counted H x q ≡ q * rateOver x
+  unfolding counted
+  plain-counted x q n = by (eqb q (h x * H)) refl
+    where
+      by : (t : Bool) → eqb q (h x * H) ≡ t → cond t ((p x + s x) * (rateUnder x * H)) (q * rateOver x) ≡ q * rateOver x
+      by true e = omega (arith, ap (λ (m : ℕ). m * rateOver x) (eqb-true q (h x * H) e), ap (λ (m : ℕ). m * (rateUnder x * H)) n, ap (λ (m : ℕ). h x * H * (m * h x)) n)
+      by false e = refl
+
+  plain-together : (xs : List Post) (qs : List ℕ) → All NoSupplement xs → countedTogether H xs qs ≡ numerator (claims H xs) qs
+  unfolding countedTogether
+  plain-together [] qs n = refl
+  plain-together (x ∷ xs) [] n = refl
+  plain-together (x ∷ xs) (q ∷ qs) n = ap₂ (λ (a b : ℕ). a * denominator (claims H xs) + b * rateUnder x) (plain-counted x q (n .0)) (plain-together xs qs (n .1))
+
+pub plain-aggregate : (xs : List Post) → All NoSupplement xs → aggregatePay xs ≡ aggregate xs (parts xs)
+unfolding aggregatePay aggregate
+plain-aggregate xs n = ap (λ (k : ℕ). rounded k (sumUnder xs)) (plain-together (contractedMinutes xs) xs (parts xs) n)
+
+pub plain-aggregate-way : (xs : List Post) → All NoSupplement xs → aggregateWay xs ≡ way (numerator (claims (contractedMinutes xs) xs) (parts xs)) (sumUnder xs)
+unfolding aggregateWay
+plain-aggregate-way xs n = ap (λ (k : ℕ). way k (sumUnder xs)) (plain-together (contractedMinutes xs) xs (parts xs) n)
 
 -- ---- no post has more than h × H parts, in a whole-time year too
 
@@ -222,49 +273,70 @@ parts-within xs = by (anyWholeTime xs)
     by true = whole-within H xs
     by false = shares-within (weightedParts xs) [] (claims H xs)
 
--- ---- the bound: no division gives more than all the pay
+-- ---- the bound: no year counts more than all pays and supplements
 
 unfoldable pub payTotal : List Post → ℕ
 payTotal [] = 0
-payTotal (x ∷ xs) = p x + payTotal xs
+payTotal (x ∷ xs) = p x + s x + payTotal xs
 
-numerator-bound : (H : ℕ) (xs : List Post) (qs : List ℕ) → Within (claims H xs) qs → numerator (claims H xs) qs ≤ payTotal xs * (denominator (claims H xs) * H)
-unfolding payTotal
-numerator-bound H [] [] nothing = omega arith
-numerator-bound H (x ∷ xs) (q ∷ qs) (more g k) =
-    omega (arith, mul-le-mul-right (p x * denominator (claims H xs)) g, mul-le-mul-right (h x) (numerator-bound H xs qs k))
-
-pub aggregate-bound : (xs : List Post) (qs : List ℕ) → All HasMinutes xs → Within (claims (contractedMinutes xs) xs) qs → aggregate xs qs ≤ payTotal xs
-unfolding payTotal rounded aggregate
-aggregate-bound [] qs w k = omega arith
-aggregate-bound (x ∷ xs) qs w k =
-    rounded-bound _ (payTotal (x ∷ xs)) (denominator (claims H (x ∷ xs)) * H) (mul-pos (denominator-pos (claims H (x ∷ xs)) (rated H (x ∷ xs) w)) (omega arith)) (numerator-bound H (x ∷ xs) qs k)
+-- a post counts at most its pay and its supplement
+pub counted-most : (H : ℕ) (x : Post) (q : ℕ) → HasMinutes x → q ≤ h x * H → counted H x q ≤ (p x + s x) * (rateUnder x * H)
+unfolding counted
+counted-most H x q k g = by (eqb q (h x * H))
   where
-    H : ℕ
-    H = contractedMinutes (x ∷ xs)
+    by : (t : Bool) → cond t ((p x + s x) * (rateUnder x * H)) (q * rateOver x) ≤ (p x + s x) * (rateUnder x * H)
+    by true = le-refl _
+    by false = omega (arith, mul-le-mul-right (rateOver x) g, mul-le-mul-left (s x * h x * H) (k .1))
 
--- ---- "the aggregate is its pay": the pay of the whole-time posts, of which refusal 8 lets one pass
+together-most : (H : ℕ) (xs : List Post) (qs : List ℕ) → All HasMinutes xs → Within (claims H xs) qs → countedTogether H xs qs ≤ payTotal xs * (denominator (claims H xs) * H)
+unfolding payTotal countedTogether
+together-most H [] [] k nothing = omega arith
+together-most H (x ∷ xs) (q ∷ qs) k (more g r) =
+    omega (arith, mul-le-mul-right (denominator (claims H xs)) (counted-most H x q (k .0) g), mul-le-mul-right (rateUnder x) (together-most H xs qs (k .1) r))
+
+pub aggregate-bound : (xs : List Post) → All HasMinutes xs → aggregatePay xs ≤ payTotal xs
+unfolding payTotal rounded aggregatePay countedTogether
+aggregate-bound [] k = omega arith
+aggregate-bound (x ∷ xs) k =
+    rounded-bound _ (payTotal (x ∷ xs)) (sumUnder (x ∷ xs)) (sum-under-pos x xs k) (together-most (contractedMinutes (x ∷ xs)) (x ∷ xs) (parts (x ∷ xs)) k (parts-within (x ∷ xs)))
+
+-- ---- "a lone whole-time post counts p + s": the pay and the supplement of the whole-time posts, of which refusal 8 lets one pass
 
 unfoldable pub wholeTimePay : List Post → ℕ
 wholeTimePay [] = 0
-wholeTimePay (x ∷ xs) = cond (wholeTime x) (p x) 0 + wholeTimePay xs
+wholeTimePay (x ∷ xs) = cond (wholeTime x) (p x + s x) 0 + wholeTimePay xs
 
-paid-whole : (H : ℕ) (xs : List Post) → 0 < H → All HasMinutes xs → paid H (claims H xs) (wholeTimeParts H xs) ≡ wholeTimePay xs
-unfolding paid wholeTimePay
-paid-whole H [] pH w = refl
-paid-whole H (x ∷ xs) pH w = ap₂ _+_ (by (wholeTime x)) (paid-whole H xs pH (w .1))
+-- a post in full
+pub full-rounds : (H : ℕ) (x : Post) → 0 < H → HasMinutes x → Rounds (counted H x (h x * H)) (rateUnder x * H) (p x + s x) Way.Exact
+unfolding full
+full-rounds H x pH k = head-whole H pH x (h x * H) k (full H x (h x * H) refl)
+
+-- and one without parts
+none-rounded : (H : ℕ) (x : Post) → 0 < H → HasMinutes x → rounded (counted H x 0) (rateUnder x * H) ≡ 0
+unfolding counted
+none-rounded H x pH k =
+    ap (λ (n : ℕ). rounded n (rateUnder x * H)) (ap (λ (t : Bool). cond t ((p x + s x) * (rateUnder x * H)) (0 * rateOver x)) (some (h x * H) (mul-pos (k .0) pH)) ∙ zero-mul (rateOver x))
+    ∙ rounded-zero (rateUnder x * H) (mul-pos (rate-under-pos x k) pH)
   where
-    by : (b : Bool) → rounded (cond b (h x * H) 0 * p x) (h x * H) ≡ cond b (p x) 0
-    by true = ap (λ (k : ℕ). rounded k (h x * H)) (mul-comm (h x * H) (p x)) ∙ rounded-whole (p x) (h x * H) (mul-pos (w .0) pH)
-    by false = ap (λ (k : ℕ). rounded k (h x * H)) (zero-mul (p x)) ∙ rounded-zero (h x * H) (mul-pos (w .0) pH)
+    some : (n : ℕ) → 0 < n → eqb 0 n ≡ false
+    some n g = ne-eqb 0 n (λ e. let z : ⊥ = omega (arith, e) in z)
+
+paid-whole : (H : ℕ) (xs : List Post) → 0 < H → All HasMinutes xs → paid H xs (wholeTimeParts H xs) ≡ wholeTimePay xs
+unfolding paid wholeTimePay
+paid-whole H [] pH k = refl
+paid-whole H (x ∷ xs) pH k = ap₂ _+_ (by (wholeTime x)) (paid-whole H xs pH (k .1))
+  where
+    by : (b : Bool) → rounded (counted H x (cond b (h x * H) 0)) (rateUnder x * H) ≡ cond b (p x + s x) 0
+    by true = full-rounds H x pH (k .0) .0
+    by false = none-rounded H x pH (k .0)
 
 pub aggregate-whole-time : (xs : List Post) → All HasMinutes xs → anyWholeTime xs ≡ true → aggregatePay xs ≡ wholeTimePay xs
-unfolding wholeTimePay rounded aggregate aggregatePay
-aggregate-whole-time [] w e = refl
-aggregate-whole-time (x ∷ xs) w e =
-    aggregate-closed (x ∷ xs) w
-    ∙ ap (λ (b : Bool). paid H (claims H (x ∷ xs)) (cond b (wholeTimeParts H (x ∷ xs)) (division (weightedParts (x ∷ xs)) (claims H (x ∷ xs))))) e
-    ∙ paid-whole H (x ∷ xs) (omega arith) w
+unfolding wholeTimePay rounded aggregatePay countedTogether
+aggregate-whole-time [] k e = refl
+aggregate-whole-time (x ∷ xs) k e =
+    aggregate-closed (x ∷ xs) k
+    ∙ ap (λ (b : Bool). paid H (x ∷ xs) (cond b (wholeTimeParts H (x ∷ xs)) (division (weightedParts (x ∷ xs)) (claims H (x ∷ xs))))) e
+    ∙ paid-whole H (x ∷ xs) (omega (arith, k .0 .0)) k
   where
     H : ℕ
     H = contractedMinutes (x ∷ xs)

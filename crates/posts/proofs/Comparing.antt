@@ -6,11 +6,11 @@ use native.Mathlib.Omega.{arith}
 use lib.Dec.{leb, ltb}
 use borrow.Author.Tests.{ltb-true, ltb-false, lt-ltb, le-ltb, le-leb, lt-leb}
 use Rattle.posts.specs.declared.Post.{Post}
-use Rattle.posts.specs.Posts.{h, p}
+use Rattle.posts.specs.Posts.{rateOver, rateUnder}
 use Rattle.posts.specs.Rates.{ordered, comparison, isHigher, isEqual, rankedBefore}
 use Rattle.posts.proofs.Pays.{ordered-higher, ordered-lower, ordered-equal, by-products}
 
--- the rank by the numbers a = p x × h y and b = p y × h x, where y is the earlier or not
+-- the rank by the cross products a and b, where y is the earlier or not
 abbrev ranked : ℕ → ℕ → Bool → Bool
 ranked a b e = cond e (leb a b) (ltb a b)
 
@@ -41,4 +41,4 @@ module _ (a b : ℕ) where
 
 -- whether y goes before x by its comparison with x
 pub ranks : (x y : Post) (e : Bool) → (isHigher (comparison y x) || (e && isEqual (comparison y x))) ≡ rankedBefore x e y
-ranks x y e = rw (← by-products y x refl refl) (flat (p x * h y) (p y * h x) e)
+ranks x y e = rw (← by-products y x refl refl) (flat (rateOver x * rateUnder y) (rateOver y * rateUnder x) e)

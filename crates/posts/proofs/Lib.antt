@@ -6,6 +6,8 @@ pub mod Aggregate
 pub mod Order
 pub mod Pays
 pub mod Comparing
+pub mod Plain
+pub mod Example
 pub mod Standing
 pub mod Turns
 pub mod Ranked

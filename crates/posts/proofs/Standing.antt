@@ -2,8 +2,8 @@
 use mathlib.Core.Path.{_≡_, refl, sym, _∙_, ap, subst}
 use mathlib.Core.Bool.{Bool, true, false, _&&_, not, cond}
 use mathlib.Core.List.{List, [], _∷_, _++_}
-use Prim.Native.Nat.{ℕ, _+_, _*_, _≤_, _<_}
-use native.Mathlib.Nat.{mul-le-mul, mul-le-mul-right, mul-comm, mul-pos, le-trans}
+use Prim.Native.Nat.{ℕ, _+_, _*_, _^_, _≤_, _<_}
+use native.Mathlib.Nat.{mul-le-mul, mul-le-mul-left, mul-comm, mul-pos, le-trans}
 use native.Mathlib.Numerals.{add-one}
 use native.Mathlib.Omega.{arith}
 use lib.Dec.{ltb, eqb}
@@ -11,7 +11,7 @@ use lib.ListN.{length, getD, length-set}
 use lib.Seq.{getD-take, take-suc-set, length-take-le}
 use borrow.Author.Tests.{ltb-true, lt-ltb, le-ltb, eqb-true, eq-eqb, ne-eqb}
 use Rattle.measures.specs.Lists.{All}
-use Rattle.measures.specs.Limits.{highestPay, highestAggregate, mostPosts}
+use Rattle.measures.specs.Limits.{highestPay, highestSupplement, highestCounted, highestAggregate, mostPosts}
 use Rattle.measures.proofs.Lists.{all-end, all-at, all-map}
 use Rattle.measures.specs.declared.Way.{Way}
 use Rattle.measures.specs.Rounding.{rounded}
@@ -21,11 +21,11 @@ use Rattle.measures.proofs.Tests.{parts as tested, passed, neither, and-left, a
 use Rattle.posts.specs.declared.Post.{Post}
 use Rattle.posts.specs.declared.YearPosts.{YearPosts}
 use Rattle.posts.specs.declared.Changed.{Changed}
-use Rattle.posts.specs.Limits.{longestWeek, mostMinutes, heaviestWeek, mostParts}
-use Rattle.posts.specs.Posts.{h, w, p, HasMinutes, contractedMinutes, weightedParts, wholeTime, anyWholeTime, parts, aggregatePay}
+use Rattle.posts.specs.Limits.{longestWeek, mostMinutes, heaviestWeek, mostParts, highestRateOver}
+use Rattle.posts.specs.Posts.{h, w, p, s, HasMinutes, contractedMinutes, weightedParts, rateOver, rateUnder, counted, wholeTime, anyWholeTime, aggregatePay}
 use Rattle.posts.specs.Refusals.{postStands, Stands, postRefusal}
 use Rattle.posts.specs.Year.{noPost, noPosts, postsOf, Held, joinedBy, joining}
-use Rattle.posts.proofs.Aggregate.{Rounds, rounds-whole, payTotal, aggregate-bound, parts-within}
+use Rattle.posts.proofs.Aggregate.{Rounds, rate-under-pos, full-rounds, counted-most, payTotal, aggregate-bound}
 
 -- the limits of refusal 7
 pub record Standing (x : Post) : Type 0 where
@@ -33,37 +33,44 @@ pub record Standing (x : Post) : Type 0 where
   pub within : h x ≤ w x
   pub week : w x ≤ longestWeek
   pub paid : p x ≤ highestPay
+  pub more : s x ≤ highestSupplement
 
 pub standing : (x : Post) → Stands x → Standing x
 unfolding postStands
-standing x e = record { some = search tested; within = search tested; week = search tested; paid = search tested }
+standing x e = record { some = search tested; within = search tested; week = search tested; paid = search tested; more = search tested }
 
 -- ---- lists of posts that stand
 
+pub stands-worked : (x : Post) → Stands x → HasMinutes x
+stands-worked x e = let t = standing x e in (t .some, t .within)
+
 pub stand-worked : (xs : List Post) → All Stands xs → All HasMinutes xs
-stand-worked xs a = all-map Stands HasMinutes (λ x s. standing x s .some) xs a
+stand-worked xs a = all-map Stands HasMinutes stands-worked xs a
 
 pub minutes-most : (xs : List Post) → All Stands xs → contractedMinutes xs ≤ longestWeek * length xs
 minutes-most [] a = omega arith
-minutes-most (x ∷ xs) a = let s = standing x (a .0) in omega (arith, minutes-most xs (a .1))
+minutes-most (x ∷ xs) a = let t = standing x (a .0) in omega (arith, minutes-most xs (a .1))
+
+-- its contracted minutes
+pub minutes-within : (x : Post) → Stands x → h x ≤ longestWeek
+minutes-within x e = let t = standing x e in omega arith
 
 -- what a post adds to K
 week-most : (x : Post) → Stands x → w x * h x ≤ heaviestWeek
-week-most x e = let s = standing x e in let m : h x ≤ longestWeek = omega arith in mul-le-mul (s .week) m
+week-most x e = mul-le-mul (standing x e .week) (minutes-within x e)
 
 pub weighted-most : (xs : List Post) → All Stands xs → weightedParts xs ≤ heaviestWeek * length xs
 weighted-most [] a = omega arith
 weighted-most (x ∷ xs) a = omega (arith, weighted-most xs (a .1), week-most x (a .0))
 
-pub pay-most : (xs : List Post) → All Stands xs → payTotal xs ≤ highestPay * length xs
+pub pay-most : (xs : List Post) → All Stands xs → payTotal xs ≤ highestCounted * length xs
 unfolding payTotal
 pay-most [] a = omega arith
-pay-most (x ∷ xs) a = let s = standing x (a .0) in omega (arith, pay-most xs (a .1))
+pay-most (x ∷ xs) a = let t = standing x (a .0) in omega (arith, pay-most xs (a .1))
 
--- a year's aggregate is at most sixteen posts at the highest pay
+-- a year's aggregate is at most sixteen posts at the highest pay and supplement
 pub aggregate-most : (xs : List Post) → All Stands xs → length xs ≤ mostPosts → aggregatePay xs ≤ highestAggregate
-unfolding aggregatePay
-aggregate-most xs a few = omega (arith, aggregate-bound xs (parts xs) (stand-worked xs a) (parts-within xs), pay-most xs a)
+aggregate-most xs a few = omega (arith, aggregate-bound xs (stand-worked xs a), pay-most xs a)
 
 pub stand-end : (xs : List Post) (x : Post) → All Stands xs → Stands x → All Stands (xs ++ x ∷ [])
 stand-end xs x a s = all-end Stands xs x a s
@@ -207,22 +214,37 @@ module _ (before : List Post) (x : Post) where
       unfolding postRefusal
       passed-first t u = rw (s, lt-ltb _ _ m, t, u) refl
 
--- ---- a post's pay for its parts
+-- ---- the rate of a post in 64 bits, and what the post counts for its parts
 
-module _ (x : Post) (part H : ℕ) (s : Stands x) (some : 0 < H) where
-  pub parts-some : 0 < h x * H
-  parts-some = mul-pos (standing x s .some) some
+pub over-most : (x : Post) → Stands x → rateOver x ≤ highestRateOver
+over-most x e = let t = standing x e in omega (arith, mul-le-mul (t .paid) (t .week), mul-le-mul (t .more) (minutes-within x e))
 
-  -- a post in full gets its pay, which is exact
-  pub pay-full : part ≡ h x * H → Rounds (part * p x) (h x * H) (p x) Way.Exact
-  pay-full e = rounds-whole (part * p x) (p x) (h x * H) parts-some (ap (λ (n : ℕ). n * p x) e ∙ mul-comm (h x * H) (p x))
+module _ (x : Post) (part H : ℕ) (e : Stands x) (some : 0 < H) where
+  pub under-some : 0 < rateUnder x * H
+  under-some = mul-pos (rate-under-pos x (stands-worked x e)) some
 
-  pub pay-most-for : part ≤ h x * H → rounded (part * p x) (h x * H) ≤ highestPay
+  -- a post in full counts its pay and its supplement, which is exact
+  pub pay-full : part ≡ h x * H → Rounds (counted H x part) (rateUnder x * H) (p x + s x) Way.Exact
+  pay-full g = subst (λ (n : ℕ). Rounds (counted H x n) (rateUnder x * H) (p x + s x) Way.Exact) (sym g) (full-rounds H x some (stands-worked x e))
+
+  -- another its minutes times its rate
+  pub pay-cut : (part ≡ h x * H → ⊥) → counted H x part ≡ rateOver x * part
+  unfolding counted
+  pay-cut n = rw (ne-eqb part (h x * H) n) (mul-comm part (rateOver x))
+
+  pub pay-most-for : part ≤ h x * H → rounded (counted H x part) (rateUnder x * H) ≤ highestCounted
   pay-most-for g =
-      le-trans
-      (rounded-bound _ (p x) (h x * H) parts-some (omega (arith, mul-le-mul-right (p x) g)))
-      (standing x s .paid)
+      let t = standing x e in
+      let all = rounded-bound (counted H x part) (p x + s x) (rateUnder x * H) under-some (counted-most H x part (stands-worked x e) g) in
+      omega (arith, all)
 
   -- the parts of a post in 64 bits
   pub part-fits : H ≤ mostMinutes → h x * H ≤ mostParts
-  part-fits g = let t = standing x s in let m : h x ≤ longestWeek = omega arith in mul-le-mul m g
+  part-fits g = mul-le-mul (minutes-within x e) g
+
+  -- and what they are worth
+  pub worth-fits : part ≤ h x * H → rateOver x * part ≤ 2 ^ 62 * (rateUnder x * H)
+  worth-fits g =
+      let t = standing x e in
+      let week : 1 ≤ w x = omega arith in
+      omega (arith, mul-le-mul (over-most x e) g, mul-le-mul-left (h x * H) week)

@@ -10,13 +10,13 @@ use lib.Dec.{ltb}
 use lib.ListN.{length, take, drop, getD, set, length-set, drop-of-length-le}
 use lib.Seq.{drop-cons, set-at, append-snoc, getD-take, take-suc, take-all, length-take-le}
 use borrow.Author.Tests.{ltb-true, ltb-false, le-ltb}
-use Rattle.measures.specs.Limits.{highestPay, mostPosts}
+use Rattle.measures.specs.Limits.{highestCounted, mostPosts}
 use Rattle.measures.specs.declared.Way.{Way}
 use Rattle.measures.specs.Rounding.{rounded, way}
 use Rattle.posts.specs.declared.Post.{Post}
 use Rattle.posts.specs.declared.YearPosts.{YearPosts}
 use Rattle.posts.specs.Division.{Claim, Within, nothing, more, higher, noLower, partsOf, claimAt, division, shares}
-use Rattle.posts.specs.Posts.{h, p, contractedMinutes, weightedParts, claim, claims, wholeTime, anyWholeTime, wholeTimeParts, parts, aggregatePay, aggregateWay}
+use Rattle.posts.specs.Posts.{h, contractedMinutes, weightedParts, rateOver, rateUnder, claim, claims, counted, wholeTime, anyWholeTime, wholeTimeParts, parts, aggregatePay, aggregateWay}
 use Rattle.posts.specs.Rates.{rankedBefore, minutesAhead}
 use Rattle.posts.specs.Paid.{paid, eitherWay, paidWay}
 use Rattle.posts.specs.Year.{noPost, noParts, postsOf, Held}
@@ -94,7 +94,7 @@ ahead-at H xs i g =
     ∙ ap (λ (n : ℕ). partsOf (noLower (claim H x)) (take i (claims H xs)) + n)
     (ap (partsOf (higher (claim H x))) (drop-cons (claims H xs) i (record { most = 0; n = 0; d = 0 }) (omega (arith, claims-length H xs)))
     ∙ ap (λ (c : Claim). cond (higher (claim H x) c) (c .most) 0 + rest) (claims-at H xs i g)
-    ∙ ap (λ (b : Bool). cond b (h x * H) 0 + rest) (le-ltb (p x * h x) (p x * h x) (omega arith))
+    ∙ ap (λ (b : Bool). cond b (h x * H) 0 + rest) (le-ltb (rateOver x * rateUnder x) (rateOver x * rateUnder x) (omega arith))
     ∙ omega arith)
   where
     x : Post
@@ -147,12 +147,12 @@ within-at H [] [] i nothing g = absurd (not-suc-le-zero g)
 within-at H (x ∷ xs) (q ∷ qs) zero (more k u) g = k
 within-at H (x ∷ xs) (q ∷ qs) (suc i) (more k u) g = within-at H xs qs i u (le-of-suc-le-suc g)
 
--- what the claims from place i on are paid, and which way that goes
+-- what the posts from place i on count, and which way that goes
 paid-turn : (H : ℕ) (xs : List Post) (qs : List ℕ) (i : ℕ) → i < length xs → i < length qs
-    → (paid H (claims H (drop i xs)) (drop i qs)
-    ≡ rounded (getD qs i 0 * p (getD xs i noPost)) (h (getD xs i noPost) * H) + paid H (claims H (drop (i + 1) xs)) (drop (i + 1) qs))
-    × (paidWay H (claims H (drop i xs)) (drop i qs)
-    ≡ eitherWay (way (getD qs i 0 * p (getD xs i noPost)) (h (getD xs i noPost) * H)) (paidWay H (claims H (drop (i + 1) xs)) (drop (i + 1) qs)))
+    → (paid H (drop i xs) (drop i qs)
+    ≡ rounded (counted H (getD xs i noPost) (getD qs i 0)) (rateUnder (getD xs i noPost) * H) + paid H (drop (i + 1) xs) (drop (i + 1) qs))
+    × (paidWay H (drop i xs) (drop i qs)
+    ≡ eitherWay (way (counted H (getD xs i noPost) (getD qs i 0)) (rateUnder (getD xs i noPost) * H)) (paidWay H (drop (i + 1) xs) (drop (i + 1) qs)))
 unfolding paid paidWay
 paid-turn H xs qs i g k = rw (add-one, drop-cons xs i noPost g, drop-cons qs i 0 k) (refl, refl)
 
@@ -175,20 +175,20 @@ write-turn s d i hs hd =
 
 -- ---- the same for a year, as the code reads it
 
--- what the posts from place i on are paid
+-- what the posts from place i on count
 abbrev paidFrom : YearPosts → ℕ → ℕ
-paidFrom y i = paid (y .minutes .0) (claims (y .minutes .0) (drop i (postsOf y))) (drop i (parts (postsOf y)))
+paidFrom y i = paid (y .minutes .0) (drop i (postsOf y)) (drop i (parts (postsOf y)))
 
 -- and which way that goes
 abbrev wayFrom : YearPosts → ℕ → Way
-wayFrom y i = paidWay (y .minutes .0) (claims (y .minutes .0) (drop i (postsOf y))) (drop i (parts (postsOf y)))
+wayFrom y i = paidWay (y .minutes .0) (drop i (postsOf y)) (drop i (parts (postsOf y)))
 
 -- the parts and the pay of the posts before place i, and which way that pay went
 pub record Upto (y : YearPosts) (out : List ℕ) (pay : ℕ) (went : Way) (i : ℕ) : Type 0 where
   pub within : i ≤ y .count
   pub room : length out ≡ mostPosts
   pub written : out ≡ take i (parts (postsOf y)) ++ drop i noParts
-  pub most : pay ≤ highestPay * i
+  pub most : pay ≤ highestCounted * i
   pub earned : pay + paidFrom y i ≡ aggregatePay (postsOf y)
   pub way : eitherWay went (wayFrom y i) ≡ aggregateWay (postsOf y)
 
@@ -221,12 +221,12 @@ module _ (y : YearPosts) (held : Held y) where
       rw (held .minutes, ← at-place i g)
       (within-at (contractedMinutes (postsOf y)) (postsOf y) (parts (postsOf y)) i (parts-within (postsOf y)) (omega (arith, count)))
 
-  -- what the post at place i is paid for so many parts, before it is rounded: over the line, and under it
+  -- what the post at place i counts for so many parts, before it is rounded: above the line, and below it
   abbrev over : ℕ → ℕ → ℕ
-  over i part = part * p (getD (y .list) i noPost)
+  over i part = counted (y .minutes .0) (getD (y .list) i noPost) part
 
   abbrev under : ℕ → ℕ
-  under i = h (getD (y .list) i noPost) * y .minutes .0
+  under i = rateUnder (getD (y .list) i noPost) * y .minutes .0
 
   paid-front : (i : ℕ) → i < y .count
       → (paidFrom y i ≡ rounded (over i (getD (parts (postsOf y)) i 0)) (under i) + paidFrom y (i + 1))
@@ -249,7 +249,7 @@ module _ (y : YearPosts) (held : Held y) where
   upto-start = record { within = omega arith; room = refl; written = refl; most = omega arith; earned = omega (arith, paid-all .0); way = paid-all .1 }
 
   pub upto-turn : (out : List ℕ) (pay : ℕ) (went : Way) (i part earned : ℕ) (own next : Way) → Upto y out pay went i → i < y .count → part ≡ getD (parts (postsOf y)) i 0
-      → earned ≡ rounded (over i part) (under i) → earned ≤ highestPay → own ≡ way (over i part) (under i) → next ≡ eitherWay went own
+      → earned ≡ rounded (over i part) (under i) → earned ≤ highestCounted → own ≡ way (over i part) (under i) → next ≡ eitherWay went own
       → Upto y (set out i part) (pay + earned) next (i + 1)
   upto-turn out pay went i part earned own next u g e f few v n =
       record {

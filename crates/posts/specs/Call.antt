@@ -12,11 +12,12 @@ use Rattle.posts.specs.Limits.{bytesOfPost}
 use Rattle.posts.specs.Posts.{postOf, aggregatePay}
 use Rattle.posts.specs.Lent.{lentRefusal, placesUnless}
 
--- "03 post: h 2, w 2, p 4", the post whose fields begin at a place of the bytes
+-- "03 post: h 2, w 2, p 4"; "A post gains a supplement s of 4 bytes at its end, in frames and in the posts call" (2.7): the post whose
+-- fields begin at a place of the bytes
 unfoldable pub postAt : List ℕ → ℕ → Post
-postAt bytes at = postOf (twoAt bytes at) (twoAt bytes (at + 2)) (fourAt bytes (at + 4))
+postAt bytes at = postOf (twoAt bytes at) (twoAt bytes (at + 2)) (fourAt bytes (at + 4)) (fourAt bytes (at + 8))
 
--- "8 bytes each, as in 03": n posts, the first of them that of this number, counted from 0
+-- "8 bytes each, as in 03", with the supplement 12: n posts, the first of them that of this number, counted from 0
 unfoldable pub postsFrom : List ℕ → ℕ → ℕ → List Post
 postsFrom bytes number zero = []
 postsFrom bytes number (suc n) = postAt bytes (bytesOfPost * number) ∷ postsFrom bytes (suc number) n
@@ -25,7 +26,7 @@ postsFrom bytes number (suc n) = postAt bytes (bytesOfPost * number) ∷ postsFr
 unfoldable pub postsIn : List ℕ → List Post
 postsIn bytes = postsFrom bytes 0 (length bytes / bytesOfPost)
 
--- "23, length no multiple of 8; 21, over 16; 22, fewer lent places for parts than posts; then by post 7, 8."
+-- "23, length no multiple of 8", where "23 goes by 12 bytes" (2.7); "21, over 16; 22, fewer lent places for parts than posts; then by post 7, 8."
 unfoldable pub callRefusal : List ℕ → ℕ → ℕ
 callRefusal bytes places = firstRefusal (unless (eqb (length bytes % bytesOfPost) 0) 23) (lentRefusal (postsIn bytes) places)
 

@@ -1,6 +1,7 @@
 pub mod Limits
 pub mod Division
 pub mod Posts
+pub mod Plain
 pub mod Refusals
 pub mod Lent
 pub mod Call

@@ -1,6 +1,6 @@
 -- "Posts of a year": the parts that each post gets, and the aggregate pay.
 use mathlib.Core.Path.{_≡_}
-use Prim.Native.Nat.{ℕ, _+_, _*_, _<_}
+use Prim.Native.Nat.{ℕ, _+_, _*_, _≤_, _<_}
 use mathlib.Core.Bool.{Bool, true, false, cond}
 use mathlib.Core.List.{List, [], _∷_}
 use lib.Dec.{eqb}
@@ -21,13 +21,22 @@ w x = x .whole .0
 abbrev pub p : Post → ℕ
 p x = x .pay .0
 
--- a post of h, w and p
-abbrev pub postOf : ℕ → ℕ → ℕ → Post
-postOf minutes week pence = record { contracted = record { 0 = minutes }; whole = record { 0 = week }; pay = record { 0 = pence } }
+-- "A post gains a supplement s" (2.7), in pence a year
+abbrev pub s : Post → ℕ
+s x = x .supplement .0
 
--- it has contracted minutes, so that p/h is a rate
+-- a post of h, w, p and s
+abbrev pub postOf : ℕ → ℕ → ℕ → ℕ → Post
+postOf minutes week pence more =
+    record { contracted = record { 0 = minutes }; whole = record { 0 = week }; pay = record { 0 = pence }; supplement = record { 0 = more } }
+
+-- it has contracted minutes, and no more of them than whole-time ones, so that it has a rate
 abbrev pub HasMinutes : Post → Type 0
-HasMinutes x = 0 < h x
+HasMinutes x = (0 < h x) × (h x ≤ w x)
+
+-- it has no supplement
+abbrev pub NoSupplement : Post → Type 0
+NoSupplement x = s x ≡ 0
 
 -- "H is the sum of h"
 abbrev pub contractedMinutes : List Post → ℕ
@@ -39,9 +48,18 @@ abbrev pub weightedParts : List Post → ℕ
 weightedParts [] = 0
 weightedParts (x ∷ xs) = w x * h x + weightedParts xs
 
--- Parts, as document 01 defines them: "Time is counted in parts, H parts to a minute. Post i may have up to h × H parts"; its rate is p/h
+-- "Its rate is (p × w/h + s)/w" (2.7), pence for a minute, which is (p × w + s × h)/(w × h): what stands above the line
+abbrev pub rateOver : Post → ℕ
+rateOver x = p x * w x + s x * h x
+
+-- and below it
+abbrev pub rateUnder : Post → ℕ
+rateUnder x = w x * h x
+
+-- Parts, as document 01 defines them: "Time is counted in parts, H parts to a minute. Post i may have up to h × H parts"; "parts go to
+-- the highest such rate first" (2.7)
 abbrev pub claim : ℕ → Post → Claim
-claim H x = record { most = h x * H; n = p x; d = h x }
+claim H x = record { most = h x * H; n = rateOver x; d = rateUnder x }
 
 -- the claims of all posts
 abbrev pub claims : ℕ → List Post → List Claim
@@ -69,19 +87,33 @@ parts xs =
     (wholeTimeParts (contractedMinutes xs) xs)
     (division (weightedParts xs) (claims (contractedMinutes xs) xs))
 
--- The aggregate, as document 01 defines it: "the sum of parts × p/(h × H), rounded once", for any division of the parts; "No posts: aggregate 0."
-unfoldable pub aggregate : List Post → List ℕ → ℕ
-aggregate xs qs =
-    rounded (numerator (claims (contractedMinutes xs) xs) qs) (denominator (claims (contractedMinutes xs) xs) * contractedMinutes xs)
+-- What a post counts for q parts, above the line of a fraction whose line has w × h × H below it: "A post in full counts p + s; a curtailed
+-- one counts its minutes times its rate; a lone whole-time post counts p + s." (2.7) In full, a post has all its parts.
+unfoldable pub counted : ℕ → Post → ℕ → ℕ
+counted H x q = cond (eqb q (h x * H)) ((p x + s x) * (rateUnder x * H)) (q * rateOver x)
 
--- the aggregate of a year's posts
+-- the sum of what the posts count, above the line, by a/b + c/d = (a × d + c × b)/(b × d)
+unfoldable pub countedTogether : ℕ → List Post → List ℕ → ℕ
+countedTogether H [] qs = 0
+countedTogether H (x ∷ xs) [] = 0
+countedTogether H (x ∷ xs) (q ∷ qs) = counted H x q * denominator (claims H xs) + countedTogether H xs qs * rateUnder x
+
+-- and below it
+abbrev pub sumUnder : List Post → ℕ
+sumUnder xs = denominator (claims (contractedMinutes xs) xs) * contractedMinutes xs
+
+-- the aggregate of a year's posts: that sum, "rounded once"; "Rounding is still once a year." (2.7) "No posts: aggregate 0."
 unfoldable pub aggregatePay : List Post → ℕ
-aggregatePay xs = aggregate xs (parts xs)
+aggregatePay xs = rounded (countedTogether (contractedMinutes xs) xs (parts xs)) (sumUnder xs)
 
 -- "Every step that rounds passes that on" (2.6): which way the year's one rounding went
 unfoldable pub aggregateWay : List Post → Way
-aggregateWay xs =
-    way (numerator (claims (contractedMinutes xs) xs) (parts xs)) (denominator (claims (contractedMinutes xs) xs) * contractedMinutes xs)
+aggregateWay xs = way (countedTogether (contractedMinutes xs) xs (parts xs)) (sumUnder xs)
+
+-- What any division of the parts is worth: "best in minutes times rate, which is how the rival workings are then valued" (2.7), full posts
+-- too, rounded once. Without a supplement it is document 01's sum of parts × p/(h × H) (`plain-worth`).
+unfoldable pub aggregate : List Post → List ℕ → ℕ
+aggregate xs qs = rounded (numerator (claims (contractedMinutes xs) xs) qs) (sumUnder xs)
 
 -- A rival's parts of one year: "A rival picks, for each post of each year, any whole number of parts from 0 to h × H, together at most that year's K;
 -- in a year with a post of h = w it has instead the parts that the posts step gives, even where they pass K."

@@ -1,4 +1,4 @@
--- The rates p/h of two posts compared, and the minutes of the posts that go before another.
+-- The rates of two posts compared, and the minutes of the posts that go before another.
 use Prim.Native.Nat.{ℕ, zero, suc, _+_}
 use mathlib.Core.Bool.{Bool, true, false, cond}
 use mathlib.Core.List.{List, [], _∷_}
@@ -16,7 +16,7 @@ byRate x = claim 0 x
 unfoldable pub ordered : ℕ → ℕ → Comparison
 ordered a b = cond (ltb b a) Comparison.Higher (cond (ltb a b) Comparison.Lower Comparison.Equal)
 
--- the rate of x is higher than, lower than or equal to that of y, as "the products" are: the pay of x times the contracted minutes of y, and the pay of y times those of x
+-- the rate of x is higher than, lower than or equal to that of y, as the cross products of the two fractions are
 unfoldable pub comparison : Post → Post → Comparison
 comparison x y =
     cond (higher (byRate y) (byRate x)) Comparison.Higher

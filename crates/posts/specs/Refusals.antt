@@ -5,15 +5,15 @@ use mathlib.Core.Bool.{Bool, true, _&&_, not}
 use mathlib.Core.List.{List, [], _∷_, _++_}
 use lib.Dec.{leb, ltb}
 use lib.ListN.{length}
-use Rattle.measures.specs.Limits.{highestPay, mostPosts}
+use Rattle.measures.specs.Limits.{highestPay, highestSupplement, mostPosts}
 use Rattle.measures.specs.Refusals.{unless, firstRefusal}
 use Rattle.posts.specs.declared.Post.{Post}
 use Rattle.posts.specs.Limits.{longestWeek}
-use Rattle.posts.specs.Posts.{h, w, p, wholeTime, anyWholeTime}
+use Rattle.posts.specs.Posts.{h, w, p, s, wholeTime, anyWholeTime}
 
--- "7, h = 0, h above w, w above 10,080, p above 1,000,000,000"
+-- "7, h = 0, h above w, w above 10,080, p above 1,000,000,000"; "It refuses within 7 a supplement above 1,000,000,000." (2.7)
 unfoldable pub postStands : Post → Bool
-postStands x = leb 1 (h x) && leb (h x) (w x) && leb (w x) longestWeek && leb (p x) highestPay
+postStands x = leb 1 (h x) && leb (h x) (w x) && leb (w x) longestWeek && leb (p x) highestPay && leb (s x) highestSupplement
 
 -- 7 does not refuse its fields
 abbrev pub Stands : Post → Type 0

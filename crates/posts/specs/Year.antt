@@ -16,7 +16,7 @@ use Rattle.posts.specs.Refusals.{Stands, postRefusal}
 
 -- a place that holds no post
 abbrev pub noPost : Post
-noPost = postOf 0 0 0
+noPost = postOf 0 0 0 0
 
 -- the posts that it holds, in list order
 abbrev pub postsOf : YearPosts → List Post

@@ -29,10 +29,12 @@ pub fn post_at(bytes: &[u8], at: usize) -> Post
     let contracted = Minutes(two_at(bytes, at));
     let whole = Minutes(two_at(bytes, at + 2));
     let pay = Pence(four_at(bytes, at + 4));
+    let supplement = Pence(four_at(bytes, at + 8));
     Post {
         contracted,
         whole,
         pay,
+        supplement,
     }
 }
 

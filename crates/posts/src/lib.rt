@@ -23,16 +23,17 @@ pub const MOST_POSTS: usize = 16;
 pub const TOO_MANY_POSTS: usize = MOST_POSTS + 1;
 
 // The bytes that spell a post.
-pub const BYTES_OF_POST: usize = 8;
+pub const BYTES_OF_POST: usize = 12;
 
 // The most whole-time minutes of a post.
 pub const LONGEST_WEEK: u64 = 10080;
 
-// A post: contracted minutes, whole-time minutes, yearly pay.
+// A post: contracted minutes, whole-time minutes, yearly pay, and the yearly supplement for hours worked.
 pub struct Post {
     pub contracted: Minutes,
     pub whole: Minutes,
     pub pay: Pence,
+    pub supplement: Pence,
 }
 
 // How one rate of pay, or one pay, compares with another.

@@ -1,21 +1,42 @@
-// The rates of posts: pay for a contracted minute.
+// The rates of posts: pay and supplement for a minute.
 use super::Comparison;
 use super::Post;
+use halves::Halves;
+use halves::is_below;
+use halves::product;
 use measures::Minutes;
 use measures::Pence;
 ghost use mathlib.Core.Path.{_≡_};
 ghost use Prim.Native.Nat.{ℕ, _*_, _≤_, _<_};
 ghost use Rattle.measures.specs.Limits.{highestPay};
-ghost use Rattle.posts.specs.Limits.{longestWeek};
+ghost use Rattle.halves.specs.Halves.{valueOf, Carried};
+ghost use Rattle.posts.specs.Limits.{longestWeek, heaviestWeek, highestRateOver};
+ghost use Rattle.posts.specs.Posts.{rateOver, rateUnder, NoSupplement};
 ghost use Rattle.posts.specs.Refusals.{Stands};
 ghost use Rattle.posts.specs.Rates.{ordered, comparison, isHigher, isEqual, rankedBefore};
 
-// A pay times contracted minutes, as two rates are compared.
+// A yearly pay or supplement times minutes.
 fn pay_times(pay: Pence, minutes: Minutes) -> u64
     requires { ⌜ (pay .0 ≤ highestPay) × (minutes .0 ≤ longestWeek) ⌝ }
     ensures { λ r. ⌜ r ≡ pay .0 * minutes .0 ⌝ }
 {
     pay.0 * minutes.0
+}
+
+// The whole-time minutes times the contracted ones: what a post adds to K, and what stands below the line of its rate.
+pub fn weighted_week(contracted: Minutes, whole: Minutes) -> u64
+    requires { ⌜ (contracted .0 ≤ longestWeek) × (whole .0 ≤ longestWeek) ⌝ }
+    ensures { λ r. ⌜ (r ≡ whole .0 * contracted .0) × (r ≤ heaviestWeek) ⌝ }
+{
+    whole.0 * contracted.0
+}
+
+// What stands above the line of a post's rate: the pay as of the whole-time week, the supplement as it is.
+pub fn rate_over(x: Post) -> u64
+    requires { ⌜ Stands x ⌝ }
+    ensures { λ r. ⌜ (r ≡ rateOver x) × (r ≤ highestRateOver) ⌝ }
+{
+    pay_times(x.pay, x.whole) + pay_times(x.supplement, x.contracted)
 }
 
 // Whether one pay is higher than, lower than or equal to another: at every h above nought the answer that the products give.
@@ -32,10 +53,10 @@ pub fn compare_pays(one: Pence, other: Pence) -> Comparison
     Comparison::Equal
 }
 
-// Whether the rate of x is higher than, lower than or equal to that of y. On equal contracts their pays are compared as they are; else
-// the products are, which are their pays for equal minutes, those of both contracts multiplied.
-pub fn compare_rates(x: Post, y: Post) -> Comparison
-    requires { ⌜ Stands x × Stands y ⌝ }
+// The rates of two posts without a supplement compared. On equal contracts their pays are compared as they are; else the products are,
+// which are their pays for equal minutes, those of both contracts multiplied.
+fn compare_plain(x: Post, y: Post) -> Comparison
+    requires { ⌜ Stands x × Stands y × NoSupplement x × NoSupplement y ⌝ }
     ensures { λ r. ⌜ r ≡ comparison x y ⌝ }
 {
     let mut own = x.pay;
@@ -45,6 +66,43 @@ pub fn compare_rates(x: Post, y: Post) -> Comparison
         other = Pence(pay_times(y.pay, x.contracted));
     }
     compare_pays(own, other)
+}
+
+// What stands above the line of the rate of x times what stands below that of y, which passes 64 bits.
+fn cross_product(x: Post, y: Post) -> Halves
+    requires { ⌜ Stands x × Stands y ⌝ }
+    ensures { λ r. ⌜ Carried r × (valueOf r ≡ rateOver x * rateUnder y) ⌝ }
+{
+    product(rate_over(x), weighted_week(y.contracted, y.whole))
+}
+
+// The rates of any two posts compared, by their cross products.
+fn compare_products(x: Post, y: Post) -> Comparison
+    requires { ⌜ Stands x × Stands y ⌝ }
+    ensures { λ r. ⌜ r ≡ comparison x y ⌝ }
+{
+    let own = cross_product(x, y);
+    let other = cross_product(y, x);
+    if is_below(other, own) {
+        return Comparison::Higher;
+    }
+    if is_below(own, other) {
+        return Comparison::Lower;
+    }
+    Comparison::Equal
+}
+
+// Whether the rate of x is higher than, lower than or equal to that of y. Pays alone decide only between two posts of equal contracts
+// with no supplement.
+pub fn compare_rates(x: Post, y: Post) -> Comparison
+    requires { ⌜ Stands x × Stands y ⌝ }
+    ensures { λ r. ⌜ r ≡ comparison x y ⌝ }
+{
+    if x.supplement.0 + y.supplement.0 == 0 {
+        compare_plain(x, y)
+    } else {
+        compare_products(x, y)
+    }
 }
 
 // Whether a comparison says higher.

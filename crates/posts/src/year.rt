@@ -6,21 +6,24 @@ use super::MOST_POSTS;
 use super::Post;
 use super::YearPosts;
 use super::rates::goes_before;
+use super::rates::rate_over;
+use super::rates::weighted_week;
+use halves::rounded_product;
 use measures::HIGHEST_PAY;
+use measures::HIGHEST_SUPPLEMENT;
 use measures::Minutes;
 use measures::Pence;
 use measures::Stepped;
 use measures::Way;
 use measures::in_pence;
-use measures::scaled;
 ghost use mathlib.Core.Path.{_≡_};
 ghost use mathlib.Core.Bool.{cond, true};
 ghost use Prim.Native.Nat.{_+_, _*_, _-_, _≤_, _<_, min};
 ghost use lib.ListN.{getD};
-ghost use Rattle.measures.specs.Limits.{highestPay};
+ghost use Rattle.measures.specs.Limits.{highestCounted};
 ghost use Rattle.measures.specs.Rounding.{rounded, way};
-ghost use Rattle.posts.specs.Limits.{longestWeek, heaviestWeek, mostMinutes};
-ghost use Rattle.posts.specs.Posts.{h, p, wholeTime, parts};
+ghost use Rattle.posts.specs.Limits.{heaviestWeek, mostMinutes};
+ghost use Rattle.posts.specs.Posts.{h, rateUnder, counted, wholeTime, parts};
 ghost use Rattle.posts.specs.Paid.{eitherWay};
 ghost use Rattle.posts.specs.Refusals.{Stands, postStands, postRefusal};
 ghost use Rattle.posts.specs.Rates.{minutesAhead};
@@ -42,6 +45,9 @@ fn stands(x: Post) -> bool
     if HIGHEST_PAY < x.pay.0 {
         return false;
     }
+    if HIGHEST_SUPPLEMENT < x.supplement.0 {
+        return false;
+    }
     true
 }
 
@@ -57,14 +63,6 @@ fn any_whole_time(before: bool, x: Post) -> bool
     ensures { λ r. ⌜ r ≡ cond before true (wholeTime x) ⌝ }
 {
     if before { true } else { is_whole_time(x) }
-}
-
-// The whole-time minutes times the contracted ones: what a post adds to K.
-fn weighted_week(contracted: Minutes, whole: Minutes) -> u64
-    requires { ⌜ (contracted .0 ≤ longestWeek) × (whole .0 ≤ longestWeek) ⌝ }
-    ensures { λ r. ⌜ (r ≡ whole .0 * contracted .0) × (r ≤ heaviestWeek) ⌝ }
-{
-    whole.0 * contracted.0
 }
 
 // Minutes as parts, H parts to a minute.
@@ -96,20 +94,28 @@ fn at_most(all: u64, limit: u64, taken: u64) -> u64
     }
 }
 
-// A post's pay for its parts: all of it for a post in full, else one rounded fraction.
+// What stands below the line of a rate for parts, H to a minute.
+fn under_parts(under: u64, total: Minutes) -> u64
+    requires { ⌜ (under ≤ heaviestWeek) × (total .0 ≤ mostMinutes) ⌝ }
+    ensures { λ r. ⌜ r ≡ under * total .0 ⌝ }
+{
+    under * total.0
+}
+
+// What a post counts for its parts: pay and supplement for a post in full, else its minutes times its rate, one rounded fraction.
 fn pay_for(x: Post, part: u64, total: Minutes) -> Stepped
     requires { ⌜ Stands x × (part ≤ h x * total .0) × (0 < total .0) × (total .0 ≤ mostMinutes) ⌝ }
-    ensures { λ r. ⌜ (r .amount .0 ≡ rounded (part * p x) (h x * total .0)) × (r .way ≡ way (part * p x) (h x * total .0)) × (r .amount .0 ≤ highestPay) ⌝ }
+    ensures { λ r. ⌜ (r .amount .0 ≡ rounded (counted (total .0) x part) (rateUnder x * total .0)) × (r .way ≡ way (counted (total .0) x part) (rateUnder x * total .0)) × (r .amount .0 ≤ highestCounted) ⌝ }
 {
     let all = in_parts(x.contracted, total);
-    let pay = x.pay;
     if part == all {
         return Stepped {
-            amount: pay,
+            amount: Pence(x.pay.0 + x.supplement.0),
             way: Way::Exact,
         };
     }
-    in_pence(scaled(part, pay.0, all))
+    let under = under_parts(weighted_week(x.contracted, x.whole), total);
+    in_pence(rounded_product(rate_over(x), part, under))
 }
 
 // Of two roundings of which one at most is not exact, the way of both together.
@@ -132,6 +138,7 @@ impl YearPosts {
             contracted: Minutes(0),
             whole: Minutes(0),
             pay: Pence(0),
+            supplement: Pence(0),
         };
         YearPosts {
             list: [empty; MOST_POSTS],

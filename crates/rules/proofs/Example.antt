@@ -10,7 +10,7 @@ use Rattle.measures.specs.Tries.{tried, after}
 use Rattle.fields.specs.Fields.{oneAt, twoAt, fourAt}
 use Rattle.calendar.specs.Dates.{isLeap, monthLength, completingDay, completedMonths, monthsEarly, dateStands, isBefore, datesRefusal}
 use Rattle.posts.specs.declared.Post.{Post}
-use Rattle.posts.specs.Posts.{postOf, aggregate, aggregatePay, aggregateWay}
+use Rattle.posts.specs.Posts.{postOf, counted, countedTogether, aggregatePay, aggregateWay}
 use Rattle.posts.specs.Refusals.{postStands, postRefusal}
 use Rattle.posts.specs.Call.{postAt}
 use Rattle.benefits.specs.Steps.{revalued, revaluedWay, accrued, accruedWay, afterYear, afterYearUps, finalPay, finalYear, sectionPension, sectionPensionWay, lumpSum, reduced, reducedWay, pensionDebit, pensionDebitWay, lumpDebit, controlled, raised, raisedWay, allowedFrom, allowedFromWay, allowed3, allowed3Way, allowed2, allowed2Way, allowed1, allowed1Way, allowedIn, allowedUps, excess, excessPension, excessPensionWay, chargeFrom, chargeProductWay, chargeFromUps, charge, chargeUps, paysWithin, termsWithin, finalPayRefusal}
@@ -28,13 +28,27 @@ abbrev pub printed : List (List ℕ)
 printed =
     (1 ∷ 7 ∷ 178 ∷ 4 ∷ 1 ∷ 7 ∷ 245 ∷ 4 ∷ 1 ∷ 0 ∷ 67 ∷ 0 ∷ [])
     ∷ (2 ∷ 7 ∷ 223 ∷ 0 ∷ 0 ∷ [])
-    ∷ (3 ∷ 5 ∷ 220 ∷ 8 ∷ 202 ∷ 0 ∷ 39 ∷ 172 ∷ 64 ∷ [])
-    ∷ (3 ∷ 3 ∷ 132 ∷ 8 ∷ 202 ∷ 0 ∷ 18 ∷ 79 ∷ 128 ∷ [])
+    ∷ (3 ∷ 5 ∷ 220 ∷ 8 ∷ 202 ∷ 0 ∷ 39 ∷ 172 ∷ 64 ∷ 0 ∷ 0 ∷ 0 ∷ 0 ∷ [])
+    ∷ (3 ∷ 3 ∷ 132 ∷ 8 ∷ 202 ∷ 0 ∷ 18 ∷ 79 ∷ 128 ∷ 0 ∷ 0 ∷ 0 ∷ 0 ∷ [])
     ∷ []
 
 pub printed-case : answerOf (kept (decodedAll printed)) ≡ Outcome.Worked (record { «net_2015» = record { 0 = 66667 }; «net_1995» = record { 0 = 0 }; «net_lump_sum» = record { 0 = 0 }; charge = record { 0 = 0 }; ups = 1 })
-unfolding rounded way upward tried after oneAt twoAt fourAt isLeap monthLength completingDay completedMonths monthsEarly dateStands isBefore datesRefusal aggregate aggregatePay aggregateWay postStands postRefusal postAt revalued revaluedWay accrued accruedWay afterYear afterYearUps lumpDebit dateAt memberIn yearIn frameLength frameOf decoded memberRefusal yearStands lastOf beforePay hasSection inSection inOrder isNext yearRefusal openPosts fieldsRefusal refusalOf addPost keep refusalOfDecoded keepDecoded kept early pensionFrom pensionOf ownPay pension1995 factorFor reducedIf gross2015 gross1995 grossLumpSum debitFor debitOf debit2015 debit1995 debitLumpSum chargeOf yearUps upsFrom sectionUps reducedIfWay reduction2015 reduction1995 reductionLumpSum reductionUps debitWay debitUps chargeUpsOf upsOf payThere factorsThere debitsFit closingOf amountsOf workedUnless answerOf
+unfolding rounded way upward tried after oneAt twoAt fourAt isLeap monthLength completingDay completedMonths monthsEarly dateStands isBefore datesRefusal counted countedTogether aggregatePay aggregateWay postStands postRefusal postAt revalued revaluedWay accrued accruedWay afterYear afterYearUps lumpDebit dateAt memberIn yearIn frameLength frameOf decoded memberRefusal yearStands lastOf beforePay hasSection inSection inOrder isNext yearRefusal openPosts fieldsRefusal refusalOf addPost keep refusalOfDecoded keepDecoded kept early pensionFrom pensionOf ownPay pension1995 factorFor reducedIf gross2015 gross1995 grossLumpSum debitFor debitOf debit2015 debit1995 debitLumpSum chargeOf yearUps upsFrom sectionUps reducedIfWay reduction2015 reduction1995 reductionLumpSum reductionUps debitWay debitUps chargeUpsOf upsOf payThere factorsThere debitsFit closingOf amountsOf workedUnless answerOf
 printed-case = refl
+
+-- Request 2.7, scenario E of source document 001: 25 h of 37.5 at £26,000 with £2,000, in full £28,000; 16 h of 40 at £32,000 with £4,000, of which
+-- 1,348.54 minutes count at their rate: 6,057,333 pence with the first post (down), whose 54th is 112,173 (up).
+abbrev pub supplements : List (List ℕ)
+supplements =
+    (1 ∷ 7 ∷ 178 ∷ 4 ∷ 1 ∷ 7 ∷ 245 ∷ 4 ∷ 1 ∷ 0 ∷ 67 ∷ 0 ∷ [])
+    ∷ (2 ∷ 7 ∷ 223 ∷ 0 ∷ 0 ∷ [])
+    ∷ (3 ∷ 5 ∷ 220 ∷ 8 ∷ 202 ∷ 0 ∷ 39 ∷ 172 ∷ 64 ∷ 0 ∷ 3 ∷ 13 ∷ 64 ∷ [])
+    ∷ (3 ∷ 3 ∷ 192 ∷ 9 ∷ 96 ∷ 0 ∷ 48 ∷ 212 ∷ 0 ∷ 0 ∷ 6 ∷ 26 ∷ 128 ∷ [])
+    ∷ []
+
+pub supplement-case : answerOf (kept (decodedAll supplements)) ≡ Outcome.Worked (record { «net_2015» = record { 0 = 112173 }; «net_1995» = record { 0 = 0 }; «net_lump_sum» = record { 0 = 0 }; charge = record { 0 = 0 }; ups = 1 })
+unfolding rounded way upward tried after oneAt twoAt fourAt isLeap monthLength completingDay completedMonths monthsEarly dateStands isBefore datesRefusal counted countedTogether aggregatePay aggregateWay postStands postRefusal postAt revalued revaluedWay accrued accruedWay afterYear afterYearUps lumpDebit dateAt memberIn yearIn frameLength frameOf decoded memberRefusal yearStands lastOf beforePay hasSection inSection inOrder isNext yearRefusal openPosts fieldsRefusal refusalOf addPost keep refusalOfDecoded keepDecoded kept early pensionFrom pensionOf ownPay pension1995 factorFor reducedIf gross2015 gross1995 grossLumpSum debitFor debitOf debit2015 debit1995 debitLumpSum chargeOf yearUps upsFrom sectionUps reducedIfWay reduction2015 reduction1995 reductionLumpSum reductionUps debitWay debitUps chargeUpsOf upsOf payThere factorsThere debitsFit closingOf amountsOf workedUnless answerOf
+supplement-case = refl
 
 -- Request 2.4: born on 1 April 1970, out at 63 in the 2008 Section, 48 months early in the 2015 Scheme and 24 months early to 65. The best three years
 -- average 4,100,000; × 7,300/21,900 is 1,366,667 (up); × 0.800 is 1,093,334 (up); less a debit of 49,505 (up).
@@ -93,10 +107,10 @@ abbrev pub everyStep : List (List ℕ)
 everyStep =
     (1 ∷ 7 ∷ 178 ∷ 4 ∷ 1 ∷ 7 ∷ 233 ∷ 4 ∷ 1 ∷ 1 ∷ 67 ∷ 60 ∷ [])
     ∷ (2 ∷ 7 ∷ 223 ∷ 0 ∷ 0 ∷ [])
-    ∷ (3 ∷ 8 ∷ 202 ∷ 8 ∷ 202 ∷ 0 ∷ 0 ∷ 0 ∷ 135 ∷ [])
+    ∷ (3 ∷ 8 ∷ 202 ∷ 8 ∷ 202 ∷ 0 ∷ 0 ∷ 0 ∷ 135 ∷ 0 ∷ 0 ∷ 0 ∷ 0 ∷ [])
     ∷ (2 ∷ 7 ∷ 224 ∷ 6 ∷ 131 ∷ [])
-    ∷ (3 ∷ 0 ∷ 1 ∷ 0 ∷ 2 ∷ 0 ∷ 0 ∷ 0 ∷ 1 ∷ [])
-    ∷ (3 ∷ 0 ∷ 3 ∷ 0 ∷ 4 ∷ 0 ∷ 0 ∷ 0 ∷ 3 ∷ [])
+    ∷ (3 ∷ 0 ∷ 1 ∷ 0 ∷ 2 ∷ 0 ∷ 0 ∷ 0 ∷ 1 ∷ 0 ∷ 0 ∷ 0 ∷ 0 ∷ [])
+    ∷ (3 ∷ 0 ∷ 3 ∷ 0 ∷ 4 ∷ 0 ∷ 0 ∷ 0 ∷ 3 ∷ 0 ∷ 0 ∷ 0 ∷ 0 ∷ [])
     ∷ (4 ∷ 0 ∷ 0 ∷ 0 ∷ 1 ∷ 0 ∷ 0 ∷ 0 ∷ 3 ∷ 0 ∷ 0 ∷ 0 ∷ 1 ∷ 0 ∷ 0 ∷ 0 ∷ 1 ∷ 1 ∷ 244 ∷ 1 ∷ 244 ∷ 1 ∷ 244 ∷ 7 ∷ 57 ∷ 8 ∷ 0 ∷ 150 ∷ [])
     ∷ (5 ∷ 0 ∷ 0 ∷ 144 ∷ 3 ∷ 132 ∷ 0 ∷ 0 ∷ [])
     ∷ (5 ∷ 1 ∷ 0 ∷ 60 ∷ 3 ∷ 132 ∷ 3 ∷ 182 ∷ [])
@@ -105,7 +119,7 @@ everyStep =
     ∷ []
 
 pub every-step-case : answerOf (kept (decodedAll everyStep)) ≡ Outcome.Worked (record { «net_2015» = record { 0 = 3 }; «net_1995» = record { 0 = 1 }; «net_lump_sum» = record { 0 = 3 }; charge = record { 0 = 5 }; ups = 13 })
-unfolding rounded way upward tried after oneAt twoAt fourAt isLeap monthLength completingDay completedMonths monthsEarly dateStands isBefore datesRefusal aggregate aggregatePay aggregateWay postStands postRefusal postAt revalued revaluedWay accrued accruedWay afterYear afterYearUps finalPay finalYear sectionPension sectionPensionWay lumpSum reduced reducedWay pensionDebit pensionDebitWay lumpDebit controlled raised raisedWay allowedFrom allowedFromWay allowed3 allowed3Way allowed2 allowed2Way allowed1 allowed1Way allowedIn allowedUps excess excessPension excessPensionWay chargeFrom chargeProductWay chargeFromUps charge chargeUps paysWithin termsWithin finalPayRefusal dateAt memberIn yearIn finalPayIn factorIn debitIn frameLength frameOf decoded memberRefusal yearStands schemeStands hasLumpSum factorRefusal debitRefusal lastOf beforePay hasSection inSection inOrder isNext yearRefusal openPosts afterFactor afterDebit fieldsRefusal refusalOf addPost keep refusalOfDecoded keepDecoded kept early pensionFrom pensionOf ownPay pension1995 factorFor reducedIf gross2015 gross1995 grossLumpSum debitFor debitOf debit2015 debit1995 debitLumpSum chargeOf yearUps upsFrom sectionUps reducedIfWay reduction2015 reduction1995 reductionLumpSum reductionUps debitWay debitUps chargeUpsOf upsOf payThere factorsThere debitsFit closingOf amountsOf workedUnless answerOf
+unfolding rounded way upward tried after oneAt twoAt fourAt isLeap monthLength completingDay completedMonths monthsEarly dateStands isBefore datesRefusal counted countedTogether aggregatePay aggregateWay postStands postRefusal postAt revalued revaluedWay accrued accruedWay afterYear afterYearUps finalPay finalYear sectionPension sectionPensionWay lumpSum reduced reducedWay pensionDebit pensionDebitWay lumpDebit controlled raised raisedWay allowedFrom allowedFromWay allowed3 allowed3Way allowed2 allowed2Way allowed1 allowed1Way allowedIn allowedUps excess excessPension excessPensionWay chargeFrom chargeProductWay chargeFromUps charge chargeUps paysWithin termsWithin finalPayRefusal dateAt memberIn yearIn finalPayIn factorIn debitIn frameLength frameOf decoded memberRefusal yearStands schemeStands hasLumpSum factorRefusal debitRefusal lastOf beforePay hasSection inSection inOrder isNext yearRefusal openPosts afterFactor afterDebit fieldsRefusal refusalOf addPost keep refusalOfDecoded keepDecoded kept early pensionFrom pensionOf ownPay pension1995 factorFor reducedIf gross2015 gross1995 grossLumpSum debitFor debitOf debit2015 debit1995 debitLumpSum chargeOf yearUps upsFrom sectionUps reducedIfWay reduction2015 reduction1995 reductionLumpSum reductionUps debitWay debitUps chargeUpsOf upsOf payThere factorsThere debitsFit closingOf amountsOf workedUnless answerOf
 every-step-case = refl
 
 -- "nought for a refused one"
@@ -119,17 +133,17 @@ yearWith r posts = record { year = record { april = 2015; revaluation = r }; pos
 
 pub record CountsShown : Type 0 where
   -- one rounding a year: 8.4 goes down, 3.5 up; a whole-time post, two posts in full and no posts are exact
-  pub sum-down : aggregateWay (postOf 5 6 8 ∷ postOf 2 3 4 ∷ postOf 1 2 1 ∷ []) ≡ Way.Down
-  pub sum-up : aggregateWay (postOf 1 2 1 ∷ postOf 3 4 3 ∷ []) ≡ Way.Up
-  pub whole-time-exact : aggregateWay (postOf 6 6 7 ∷ postOf 1 6 5 ∷ []) ≡ Way.Exact
-  pub in-full-exact : aggregateWay (postOf 1 4 5 ∷ postOf 2 4 7 ∷ []) ≡ Way.Exact
+  pub sum-down : aggregateWay (postOf 5 6 8 0 ∷ postOf 2 3 4 0 ∷ postOf 1 2 1 0 ∷ []) ≡ Way.Down
+  pub sum-up : aggregateWay (postOf 1 2 1 0 ∷ postOf 3 4 3 0 ∷ []) ≡ Way.Up
+  pub whole-time-exact : aggregateWay (postOf 6 6 7 0 ∷ postOf 1 6 5 0 ∷ []) ≡ Way.Exact
+  pub in-full-exact : aggregateWay (postOf 1 4 5 0 ∷ postOf 2 4 7 0 ∷ []) ≡ Way.Exact
   pub none-exact : aggregateWay [] ≡ Way.Exact
   -- the 54th of 27 and of 26; 5 revalued to 5.5
-  pub accrued-up : yearUps 0 (yearWith 0 (postOf 6 6 27 ∷ [])) ≡ 1
-  pub accrued-down : yearUps 0 (yearWith 0 (postOf 6 6 26 ∷ [])) ≡ 0
+  pub accrued-up : yearUps 0 (yearWith 0 (postOf 6 6 27 0 ∷ [])) ≡ 1
+  pub accrued-down : yearUps 0 (yearWith 0 (postOf 6 6 26 0 ∷ [])) ≡ 0
   pub revalued-up : yearUps 5 (yearWith 1000 []) ≡ 1
   -- the aggregate of 3.5, and its 54th down
-  pub aggregate-up : yearUps 0 (yearWith 0 (postOf 1 2 1 ∷ postOf 3 4 3 ∷ [])) ≡ 1
+  pub aggregate-up : yearUps 0 (yearWith 0 (postOf 1 2 1 0 ∷ postOf 3 4 3 0 ∷ [])) ≡ 1
   -- allowed 3 and allowed 1 go from 1.5 to 2, allowed 2 is exact, the excess pension goes from a half to 1; final pay is that of year 3
   pub all-controlled : chargeUps (halves 1 3 1 1 7 14600) ≡ 3
   pub year-3-controlled : chargeUps (halves 1 3 1 1 1 14600) ≡ 2
@@ -148,7 +162,7 @@ pub record CountsShown : Type 0 where
   pub no-debit : debitWay none ≡ Way.Exact
 
 pub counts-shown : CountsShown
-unfolding rounded way upward aggregate aggregatePay aggregateWay revaluedWay accruedWay afterYearUps yearUps finalPay finalYear sectionPension sectionPensionWay controlled raised raisedWay allowedFrom allowedFromWay allowed3 allowed3Way allowed2 allowed2Way allowed1 allowed1Way allowedIn allowedUps excess excessPension excessPensionWay chargeProductWay chargeFromUps chargeUps threes better bestOf bestThree average averagePay averageWay pension2008Way sectionUps reducedWay reducedIfWay pensionDebitWay debitWay
+unfolding rounded way upward counted countedTogether aggregatePay aggregateWay revaluedWay accruedWay afterYearUps yearUps finalPay finalYear sectionPension sectionPensionWay controlled raised raisedWay allowedFrom allowedFromWay allowed3 allowed3Way allowed2 allowed2Way allowed1 allowed1Way allowedIn allowedUps excess excessPension excessPensionWay chargeProductWay chargeFromUps chargeUps threes better bestOf bestThree average averagePay averageWay pension2008Way sectionUps reducedWay reducedIfWay pensionDebitWay debitWay
 counts-shown =
     record {
       sum-down = refl;

@@ -1,6 +1,6 @@
 -- Demand 3 over the frames kept: no rival working gives more than the amounts of the steps.
 use Prim.Native.Nat.{ℕ, _+_, _≤_}
-use mathlib.Core.Path.{_≡_, refl, _∙_, ap, ap₂, subst}
+use mathlib.Core.Path.{_≡_, refl, ap₂, subst}
 use mathlib.Core.Bool.{Bool, true, false, _&&_, cond}
 use mathlib.Core.List.{List, [], _∷_, map}
 use mathlib.Core.Option.{Option, none, some}
@@ -15,7 +15,7 @@ use Rattle.measures.specs.Lists.{All}
 use Rattle.measures.specs.Refusals.{unless, firstRefusal}
 use Rattle.measures.proofs.Tests.{clash, both-sides, passed, neither, and-left, and-right}
 use Rattle.measures.proofs.Integers.{less, less-mono, less-both}
-use Rattle.posts.specs.Posts.{HasMinutes, aggregatePay}
+use Rattle.posts.specs.Posts.{HasMinutes}
 use Rattle.posts.proofs.Aggregate.{optimal, parts-allowed}
 use Rattle.benefits.specs.Steps.{finalPay, finalYear, reduced}
 use Rattle.benefits.proofs.Monotone.{afterYear-mono, sectionPension-mono, lumpSum-mono, reduced-mono}
@@ -29,23 +29,17 @@ use Rattle.rules.specs.Rules.{WorkedYear, SectionPay, of1995, of2008, Fr
 use Rattle.rules.specs.Working.{early2015, early1995, pensionFrom, pensionOf, ownAggregates, ownParts, rivalAggregates, candidates, ownPay, pension1995, pensionFactor, lumpFactor, reducedIf, factor2015, factor1995, gross2015, gross1995, grossLumpSum, debit2015, debit1995, debitLumpSum, payThere, factorsThere, debitsFit, closingOf, amountsOf, workedUnless, answerOf}
 use Rattle.rules.specs.Rivals.{Choice, RivalParts, noYears, year, Picked, none as noPick, here, later, Allowed, net2015, net1995, netLumpSum, Given, AtMost, LargestOf}
 
--- every post of a year has contracted minutes
+-- every post of a year has contracted minutes, and no more than whole-time ones
 abbrev pub WorkedPosts : WorkedYear → Type 0
 WorkedPosts y = All HasMinutes (y .posts)
 
 -- ---- the steps rise with the amounts
 
 pension-mono : {a b : ℕ} (ys : List WorkedYear) (qs : List (List ℕ)) → All WorkedPosts ys → RivalParts ys qs → a ≤ b → pensionFrom a ys (rivalAggregates ys qs) ≤ pensionFrom b ys (ownAggregates ys)
-unfolding pensionFrom aggregatePay
+unfolding pensionFrom
 pension-mono [] [] w noYears g = g
 pension-mono (y ∷ ys) (q ∷ qs) w (year r rs) g =
     pension-mono ys qs (w .1) rs (afterYear-mono g (le-refl (y .year .revaluation)) (optimal (y .posts) q (w .0) r))
-
--- our aggregates are those of our own parts
-own-aggregates : (ys : List WorkedYear) → rivalAggregates ys (ownParts ys) ≡ ownAggregates ys
-unfolding aggregatePay
-own-aggregates [] = refl
-own-aggregates (y ∷ ys) = ap (λ (l : List ℕ). aggregatePay (y .posts) ∷ l) (own-aggregates ys)
 
 reducedIf-mono : (months factor : ℕ) {a b : ℕ} → a ≤ b → reducedIf months factor a ≤ reducedIf months factor b
 unfolding reducedIf
@@ -145,7 +139,7 @@ module _ (k : Frames) (w : All WorkedPosts (k .years)) (f : Covered k) where
   gives =
       record {
         allowed = record { parts = own-parts (k .years) w; pay = own-pay (k .pay) };
-        pension2015 = ap (λ (l : List ℕ). pos (gross2015 k l) -ℤ pos (debit2015 k)) (own-aggregates (k .years)) ∙ less _ _ (f .of2015);
+        pension2015 = less _ _ (f .of2015);
         pension1995 = less _ _ (f .of1995);
         lumpSum = less _ _ (f .ofLumpSum);
         charge = refl;
@@ -156,7 +150,7 @@ module _ (k : Frames) (w : All WorkedPosts (k .years)) (f : Covered k) where
   at-most choice r =
       record {
         pensions =
-            subst (λ (z : ℤ). (net2015 k choice +ℤ net1995 k choice) ≤ℤ z) (ap₂ _+ℤ_ (less _ _ (f .of2015)) (gives .pension1995))
+            subst (λ (z : ℤ). (net2015 k choice +ℤ net1995 k choice) ≤ℤ z) (ap₂ _+ℤ_ (gives .pension2015) (gives .pension1995))
             (less-both _ _ (debit2015 k) _ _ (debit1995 k)
             (reducedIf-mono (early2015 (k .member)) (pensionFactor (factor2015 k)) (pension-mono (k .years) (choice .parts) w (r .parts) (le-refl 0)))
             (if-mono (hasSection k) (reducedIf-mono (early1995 (k .member)) (pensionFactor (factor1995 k)) (pension1995-mono (k .pay) pays))));

@@ -2,12 +2,12 @@
 use mathlib.Core.Path.{refl}
 use Rattle.measures.specs.Rounding.{rounded}
 use Rattle.calendar.specs.Dates.{isLeap, monthLength, completingDay, completedMonths, monthsEarly}
-use Rattle.posts.specs.Posts.{aggregate, aggregatePay}
+use Rattle.posts.specs.Posts.{counted, countedTogether, aggregatePay}
 use Rattle.benefits.specs.Steps.{finalPay, finalYear, sectionPension, pensionDebit, lumpDebit, controlled, raised, allowedFrom, allowed3, allowed2, allowed1, allowedIn, excess, excessPension, chargeFrom, charge, enhancement, abatement}
 use Rattle.rules.specs.Starred.{Starred}
 
 pub starred : Starred
-unfolding rounded aggregate aggregatePay isLeap monthLength completingDay completedMonths monthsEarly finalPay finalYear sectionPension pensionDebit lumpDebit controlled raised allowedFrom allowed3 allowed2 allowed1 allowedIn excess excessPension chargeFrom charge enhancement abatement
+unfolding rounded counted countedTogether aggregatePay isLeap monthLength completingDay completedMonths monthsEarly finalPay finalYear sectionPension pensionDebit lumpDebit controlled raised allowedFrom allowed3 allowed2 allowed1 allowedIn excess excessPension chargeFrom charge enhancement abatement
 starred =
     record {
       no-posts = refl;

@@ -7,7 +7,7 @@ use lib.Signed.{_≤ℤ_}
 use Rattle.posts.specs.Posts.{Rival}
 use Rattle.rules.specs.declared.Amounts.{Amounts}
 use Rattle.rules.specs.Rules.{WorkedYear, Frames, Kept, nothing, begun}
-use Rattle.rules.specs.Working.{ownParts, rivalAggregates, ownPay, candidates, gross2015, gross1995, grossLumpSum, debit2015, debit1995, debitLumpSum, chargeOf}
+use Rattle.rules.specs.Working.{ownAggregates, ownParts, rivalAggregates, ownPay, candidates, gross2015, gross1995, grossLumpSum, debit2015, debit1995, debitLumpSum, chargeOf}
 
 -- what a working picks: the parts of each year's posts, and the pay of the section
 pub record Choice : Type 0 where
@@ -46,10 +46,11 @@ net1995 k choice = pos (gross1995 k (choice .pay)) -ℤ pos (debit1995 k)
 unfoldable pub netLumpSum : Frames → Choice → ℤ
 netLumpSum k choice = pos (grossLumpSum k (choice .pay)) -ℤ pos (debitLumpSum k)
 
--- "the amounts the case gives, which are those of the steps above": by our own working, which is itself allowed
+-- "the amounts the case gives, which are those of the steps above": the 2015 pension by our own aggregates, in which "a post in full counts
+-- p + s" (2.7), and the rest by our own working, which is itself allowed
 pub record Given (k : Frames) (a : Amounts) : Type 0 where
   pub allowed : Allowed k (ownChoice k)
-  pub pension2015 : net2015 k (ownChoice k) ≡ pos (a .«net_2015» .0)
+  pub pension2015 : pos (gross2015 k (ownAggregates (k .years))) -ℤ pos (debit2015 k) ≡ pos (a .«net_2015» .0)
   pub pension1995 : net1995 k (ownChoice k) ≡ pos (a .«net_1995» .0)
   pub lumpSum : netLumpSum k (ownChoice k) ≡ pos (a .«net_lump_sum» .0)
   pub charge : a .charge .0 ≡ chargeOf (k .pay)

@@ -29,16 +29,16 @@ pub record Starred : Type 0 where
   -- "No posts: 0."
   pub no-posts : aggregatePay [] ≡ 0
   -- "20 h at £10,000 and 20 h at £12,000 of 37.5 h: £20,750."
-  pub two-posts : aggregatePay (postOf 1200 2250 1000000 ∷ postOf 1200 2250 1200000 ∷ []) ≡ 2075000
+  pub two-posts : aggregatePay (postOf 1200 2250 1000000 0 ∷ postOf 1200 2250 1200000 0 ∷ []) ≡ 2075000
   -- "25 h £26,000, 15 h £12,000 of 37.5: £36,000."
-  pub uneven-posts : aggregatePay (postOf 1500 2250 2600000 ∷ postOf 900 2250 1200000 ∷ []) ≡ 3600000
+  pub uneven-posts : aggregatePay (postOf 1500 2250 2600000 0 ∷ postOf 900 2250 1200000 0 ∷ []) ≡ 3600000
   -- "20 h £53,000 of 37.5, 19 h £47,500 of 40: £99,794.87."
-  pub differing-weeks : aggregatePay (postOf 1200 2250 5300000 ∷ postOf 1140 2400 4750000 ∷ []) ≡ 9979487
+  pub differing-weeks : aggregatePay (postOf 1200 2250 5300000 0 ∷ postOf 1140 2400 4750000 0 ∷ []) ≡ 9979487
   -- "Twice 20 h £10,000 of 37.5: £18,750, the second cut."
-  pub equal-rates : aggregatePay (postOf 1200 2250 1000000 ∷ postOf 1200 2250 1000000 ∷ []) ≡ 1875000
-  pub second-cut : parts (postOf 1200 2250 1000000 ∷ postOf 1200 2250 1000000 ∷ []) ≡ 1200 * 2400 ∷ 1050 * 2400 ∷ []
+  pub equal-rates : aggregatePay (postOf 1200 2250 1000000 0 ∷ postOf 1200 2250 1000000 0 ∷ []) ≡ 1875000
+  pub second-cut : parts (postOf 1200 2250 1000000 0 ∷ postOf 1200 2250 1000000 0 ∷ []) ≡ 1200 * 2400 ∷ 1050 * 2400 ∷ []
   -- "37.5 h £20,000 and 5 h £9,000, both of 37.5: £20,000."
-  pub whole-time : aggregatePay (postOf 2250 2250 2000000 ∷ postOf 300 2250 900000 ∷ []) ≡ 2000000
+  pub whole-time : aggregatePay (postOf 2250 2250 2000000 0 ∷ postOf 300 2250 900000 0 ∷ []) ≡ 2000000
   -- "Born 1 April 1970, out 1 November 2025, age 60: 53 months."
   pub early-at-60 : monthsEarly (dateOf 1970 4 1) (dateOf 2025 11 1) 60 ≡ pos 53
   -- "Born 1 November 1967, age 67: out 17 October 2030, 49; 1 November 2034, 0; 1 December 2034, −1."

@@ -50,17 +50,17 @@ pensionFrom pension (y ∷ ys) (a ∷ later) = pensionFrom (afterYear pension (y
 unfoldable pub pensionOf : List WorkedYear → List ℕ → ℕ
 pensionOf years aggregates = pensionFrom 0 years aggregates
 
--- ours: the aggregates of the parts that the posts step gives
+-- ours: the aggregates that the posts step gives
 abbrev pub ownAggregates : List WorkedYear → List ℕ
 ownAggregates [] = []
 ownAggregates (y ∷ ys) = aggregatePay (y .posts) ∷ ownAggregates ys
 
--- these parts
+-- the parts that it gives
 abbrev pub ownParts : List WorkedYear → List (List ℕ)
 ownParts [] = []
 ownParts (y ∷ ys) = parts (y .posts) ∷ ownParts ys
 
--- a rival's: the aggregates of the parts that it picks
+-- a rival's: what the parts that it picks are worth, "best in minutes times rate, which is how the rival workings are then valued" (2.7)
 abbrev pub rivalAggregates : List WorkedYear → List (List ℕ) → List ℕ
 rivalAggregates [] qs = []
 rivalAggregates (y ∷ ys) [] = []

@@ -38,7 +38,7 @@ fn line(case: Case, text: &[u8]) -> Case
 
 // Does the lines of a script in turn.
 fn run(script: &[u8])
-    requires { ⌜ length (now script) ≤ 65536 ⌝ }
+    requires { ⌜ length (now script) ≤ 131072 ⌝ }
 {
     let mut case = Case::start();
     let mut at: usize = 0;
@@ -50,7 +50,7 @@ fn run(script: &[u8])
 }
 
 fn main() {
-    let mut buffer = io::large_buffer();
+    let mut buffer = [0u8; 131072];
     let given = read_input(&mut buffer);
     let n = given.count;
     run(&buffer[..n]);

@@ -1,48 +1,25 @@
--- `posts::rates::compare_rates` meets its contract: on equal contracts the pays decide as the products do.
-use Prim.Native.Nat.{ℕ}
-use mathlib.Core.Path.{_≡_, _∙_, ap}
-use mathlib.Core.Logic.{⊎-elim}
-use borrow.Author.Needs.{needs}
+-- `posts::rates::compare_rates` meets its contract.
 use native.Mathlib.Omega.{arith}
-use Rattle.measures.specs.declared.Pence.{Pence}
-use Rattle.posts.specs.Rates.{ordered, comparison}
+use borrow.Author.Needs.{needs}
 use Rattle.posts.proofs.Standing.{standing}
-use Rattle.posts.proofs.Pays.{equal-contracts, by-products}
 use Rattle.posts.proofs.rates.compare_rates.Statement.{statement}
 use Rattle.posts.proofs.rates.compare_rates.Tie as tie
 
-pay-times-requires : tie.Need-pay-times-requires
-pay-times-requires c κs =
-    let s = c .before .before .before .before .before in
-    let x = standing (s .args .x) (s .pre .0) in
-    let y = standing (s .args .y) (s .pre .1) in
-    (x .paid, omega arith)
+add-if1 : tie.Need-add-if1
+add-if1 c = let s = c .before .before in omega (arith, standing (s .args .x) (s .pre .0) .more, standing (s .args .y) (s .pre .1) .more)
 
-pay-times-requires-2 : tie.Need-pay-times-requires-2
-pay-times-requires-2 c κs =
-    let s = c .before .before .before .before .before .before in
-    let x = standing (s .args .x) (s .pre .0) in
-    let y = standing (s .args .y) (s .pre .1) in
-    (y .paid, omega arith)
+compare-plain-requires : tie.Need-compare-plain-requires
+compare-plain-requires c κs = search needs
 
-compare-pays-requires : tie.Need-compare-pays-requires
-compare-pays-requires c κs = search needs
-
--- the pays or the products, as they meet
-met : (c : tie.Joined1) → let s = c .before .before .before .before .before in ordered (c .if1 .own .0) (c .if1 .other .0) ≡ comparison (s .args .x) (s .args .y)
-met c =
-    let s = c .before .before .before .before .before in
-    let x = s .args .x in
-    let y = s .args .y in
-    let some = standing x (s .pre .0) .some in
-    let pence : Pence → ℕ = λ v. v .0 in
-    ⊎-elim (λ w. by-products x y (ap pence (w .3) ∙ w .1 .ensures) (ap pence (w .4) ∙ w .2 .ensures))
-    (λ w. rw (w .1, w .2) (equal-contracts x y some (w .0 .left)))
-    (c .if1 .came)
+compare-products-requires : tie.Need-compare-products-requires
+compare-products-requires c κs = search needs
 
 returns : tie.Need-returns
-returns c = c .compare-pays .ensures .0 ∙ met (c .before)
+returns c = search needs
+
+returns-2 : tie.Need-returns-2
+returns-2 c = search needs
 
 pub compare-rates-spec : {M : Type 1} → statement M
 compare-rates-spec =
-    tie.close (tie.spec pay-times-requires pay-times-requires-2 compare-pays-requires returns)
+    tie.close (tie.spec add-if1 compare-plain-requires compare-products-requires returns returns-2)

@@ -1,34 +1,54 @@
 -- `posts::year::pay_for` meets its contract.
-use mathlib.Core.Path.{sym, _∙_, ap}
-use Prim.Native.Nat.{_*_}
-use native.Mathlib.Nat.{le-trans, le-of-eq}
+use mathlib.Core.Path.{sym, _∙_, ap, ap₂}
+use Prim.Native.Nat.{ℕ, _*_}
+use native.Mathlib.Nat.{le-trans, le-of-eq, mul-le-mul}
 use native.Mathlib.Omega.{arith}
 use borrow.Author.Needs.{needs}
-use Rattle.measures.specs.Limits.{highestPay}
 use Rattle.measures.specs.Rounding.{rounded, way}
-use Rattle.measures.proofs.Products.{product}
-use Rattle.posts.specs.Limits.{mostParts}
-use Rattle.posts.specs.Posts.{p}
-use Rattle.posts.proofs.Standing.{standing, parts-some, pay-full, pay-most-for, part-fits}
+use Rattle.posts.proofs.Standing.{standing, minutes-within, under-some, pay-full, pay-cut, pay-most-for, part-fits, worth-fits}
 use Rattle.posts.proofs.year.pay_for.Statement.{statement}
 use Rattle.posts.proofs.year.pay_for.Tie as tie
 
 in-parts-requires : tie.Need-in-parts-requires
-in-parts-requires c κs = let x = standing (c .args .x) (c .pre .0) in (omega arith, c .pre .3)
+in-parts-requires c κs = (omega (arith, minutes-within (c .args .x) (c .pre .0)), c .pre .3)
+
+add-t7 : tie.Need-add-t7
+add-t7 c = let s = c .before .before .before in let x = standing (s .args .x) (s .pre .0) in omega arith
 
 returns : tie.Need-returns
 returns c =
     let s = c .before .before .before in
     let x = standing (s .args .x) (s .pre .0) in
-    let e = pay-full (s .args .x) (s .args .part) (s .args .total .0) (s .pre .0) (s .pre .2) (c .if1 .taken ∙ c .before .before .in-parts .ensures) in
-    (sym (e .0), sym (e .1), x .paid)
+    let e = pay-full (s .args .x) (s .args .part) (s .args .total .0) (s .pre .0) (s .pre .2) (c .before .if1 .taken ∙ c .before .before .in-parts .ensures) in
+    (sym (e .0), sym (e .1), omega arith)
 
-scaled-requires : tie.Need-scaled-requires
-scaled-requires c κs =
-    let s = c .before .before .before in
-    let few = le-trans (s .pre .1) (part-fits (s .args .x) (s .args .part) (s .args .total .0) (s .pre .0) (s .pre .2) (s .pre .3)) in (
-      omega (arith, c .before .before .in-parts .ensures, parts-some (s .args .x) (s .args .part) (s .args .total .0) (s .pre .0) (s .pre .2)),
-      product mostParts highestPay few (standing (s .args .x) (s .pre .0) .paid) tt .fits,
+weighted-week-requires : tie.Need-weighted-week-requires
+weighted-week-requires c κs =
+    let s = c .before .before in
+    (minutes-within (s .args .x) (s .pre .0), standing (s .args .x) (s .pre .0) .week)
+
+under-parts-requires : tie.Need-under-parts-requires
+under-parts-requires c κs = search needs
+
+rate-over-requires : tie.Need-rate-over-requires
+rate-over-requires c κs = search needs
+
+rounded-product-requires : tie.Need-rounded-product-requires
+rounded-product-requires c κs =
+    let week = c .before .before in
+    let s = week .before .before .before in
+    let x = s .args .x in
+    let part = s .args .part in
+    let H = s .args .total .0 in
+    let under = c .before .under-parts .ensures ∙ ap (λ (n : ℕ). n * H) (week .weighted-week .ensures .0) in (
+      (omega (arith, c .rate-over .ensures .1), omega (arith, s .pre .1, part-fits x part H (s .pre .0) (s .pre .2) (s .pre .3))),
+      (
+        (
+          omega (arith, under, under-some x part H (s .pre .0) (s .pre .2)),
+          omega (arith, c .before .under-parts .ensures, mul-le-mul (week .weighted-week .ensures .1) (s .pre .3)),
+        ),
+        rw (c .rate-over .ensures .0, under) (worth-fits x part H (s .pre .0) (s .pre .2) (s .pre .1)),
+      ),
     )
 
 in-pence-requires : tie.Need-in-pence-requires
@@ -37,13 +57,32 @@ in-pence-requires c κs = search needs
 returns-2 : tie.Need-returns-2
 returns-2 c =
     let value = c .before in
-    let s = value .before .before .before .before in
-    let all = value .before .before .before .in-parts .ensures in
-    let e = c .in-pence .ensures .0 ∙ value .scaled .ensures .0 ∙ ap (rounded (s .args .part * p (s .args .x))) all in (
+    let over = value .before in
+    let week = over .before .before in
+    let if1 = week .before in
+    let s = if1 .before .before in
+    let x = s .args .x in
+    let part = s .args .part in
+    let H = s .args .total .0 in
+    let under = over .before .under-parts .ensures ∙ ap (λ (n : ℕ). n * H) (week .weighted-week .ensures .0) in
+    let cut = pay-cut x part H (s .pre .0) (s .pre .2) (λ g. if1 .if1 .left (g ∙ sym (if1 .before .in-parts .ensures))) in
+    let product = ap (λ (n : ℕ). n * part) (over .rate-over .ensures .0) ∙ sym cut in
+    let e = c .in-pence .ensures .0 ∙ value .rounded-product .ensures .0 ∙ ap₂ rounded product under in (
       e,
-      c .in-pence .ensures .1 ∙ value .scaled .ensures .1 ∙ ap (way (s .args .part * p (s .args .x))) all,
-      le-trans (le-of-eq e) (pay-most-for (s .args .x) (s .args .part) (s .args .total .0) (s .pre .0) (s .pre .2) (s .pre .1)),
+      c .in-pence .ensures .1 ∙ value .rounded-product .ensures .1 ∙ ap₂ way product under,
+      le-trans (le-of-eq e) (pay-most-for x part H (s .pre .0) (s .pre .2) (s .pre .1)),
     )
 
 pub pay-for-spec : {M : Type 1} → statement M
-pay-for-spec = tie.close (tie.spec in-parts-requires returns scaled-requires in-pence-requires returns-2)
+pay-for-spec =
+    tie.close
+    (tie.spec
+    in-parts-requires
+    add-t7
+    returns
+    weighted-week-requires
+    under-parts-requires
+    rate-over-requires
+    rounded-product-requires
+    in-pence-requires
+    returns-2)
