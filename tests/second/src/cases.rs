@@ -52,6 +52,17 @@ pub struct Outcome {
     pub rounded_up: u64,
 }
 
+impl Outcome {
+    /// That of a refusal at a line.
+    pub fn refused(refusal: u64, line: u64) -> Outcome {
+        Outcome {
+            refusal,
+            line,
+            ..Outcome::default()
+        }
+    }
+}
+
 /// Refusal 5 of a member, then 28.
 fn try_member(member: &Member) -> Result<(), u64> {
     try_dates(member.birth, member.retirement, member.pension_age)?;
@@ -324,11 +335,7 @@ pub fn read(text: &[u8]) -> Result<Case, (u64, u64)> {
 /// The case call: what a text gives.
 pub fn case(text: &[u8]) -> Outcome {
     let worked = read(text).and_then(|case| case.close().map_err(|refusal| (refusal, 0)));
-    worked.unwrap_or_else(|(refusal, line)| Outcome {
-        refusal,
-        line,
-        ..Outcome::default()
-    })
+    worked.unwrap_or_else(|(refusal, line)| Outcome::refused(refusal, line))
 }
 
 /// The printed line of an outcome.

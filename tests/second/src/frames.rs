@@ -102,7 +102,7 @@ fn widths(kind: u8) -> Option<&'static [usize]> {
     match kind {
         0x01 => Some(&[2, 1, 1, 2, 1, 1, 1, 1, 1]),
         0x02 => Some(&[2, 2]),
-        0x03 => Some(&[2, 2, 4]),
+        0x03 => Some(&[2, 2, 4, 4]),
         0x04 => Some(&[4, 4, 4, 4, 2, 2, 2, 1, 2, 2]),
         0x05 => Some(&[1, 2, 2, 2]),
         0x06 => Some(&[1, 4, 2]),
@@ -151,11 +151,7 @@ pub fn frame(bytes: &[u8]) -> Result<Frame, u64> {
             april: of[0],
             revaluation: of[1],
         },
-        0x03 => Frame::Post(Post {
-            contracted: of[0],
-            whole_time: of[1],
-            pay: of[2],
-        }),
+        0x03 => Frame::Post(Post::of(of.as_slice().try_into().expect("four fields"))),
         0x04 => Frame::FinalPay(FinalPay::of(of.as_slice().try_into().expect("ten fields"))),
         0x05 => Frame::Factor(Factor {
             scheme: of[0],

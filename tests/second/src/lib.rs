@@ -1,5 +1,5 @@
 //! A second working of pension cases, written from document 01 and the landed requests of document
-//! 02: 2.1 to 2.6.
+//! 02: 2.1 to 2.7.
 //!
 //! It shares nothing with the engine and goes another way wherever there is one: posts are sorted
 //! by rate and filled in turn, the aggregate is one exact sum of fractions in wide numbers, months
@@ -15,7 +15,8 @@
 //! the repository; `program` runs the case program. The engine's library is linked into all of them,
 //! so that none can run without it: `CANYONSIEVE_LIB_DIR` names the folder of `libcanyonsieve.a`.
 //!
-//! `mistakes` has workings with one step wrong, for the examples that show them.
+//! `mistakes` has workings with one step wrong, for the examples that show them; `document_01` has the
+//! posts step as it was before supplements, for lists that have none.
 //!
 //! ```text
 //! CANYONSIEVE_LIB_DIR=.. cargo run --release --bin compare
@@ -24,6 +25,7 @@
 pub mod benefits;
 pub mod calendar;
 pub mod cases;
+pub mod document_01;
 pub mod employers;
 pub mod engine;
 pub mod frames;
@@ -41,7 +43,7 @@ pub use cases::{case, printed, Outcome};
 pub use employers::change_of_employer;
 pub use posts::{posts, records};
 
-/// The largest pay or pot in pence.
+/// The largest pay, supplement or pot in pence.
 pub const LARGEST_PAY: u64 = 1_000_000_000;
 
 /// `Err` with the refusal where the test fails.

@@ -3,10 +3,10 @@
 
 use crate::cases::{Case, Outcome};
 use crate::posts::{
-    aggregate, aggregate_of, by_rate, filled, minutes_together, parts_of, parts_together, Post,
+    aggregate, aggregate_of, by_rate, filled, in_order, minutes_together, parts_of, parts_together,
+    Post,
 };
 use crate::wide::{rounded, Rounded, Way};
-use std::cmp::Reverse;
 
 #[derive(Clone, Copy, Debug, PartialEq, Eq)]
 pub enum Mistake {
@@ -123,9 +123,7 @@ fn aggregate_with(mistake: Mistake, posts: &[Post]) -> Rounded {
 
 /// The places of the posts by falling pay; of equal pays the earlier post first.
 fn by_pay(posts: &[Post]) -> Vec<usize> {
-    let mut order: Vec<usize> = (0..posts.len()).collect();
-    order.sort_by_key(|&place| Reverse(posts[place].pay));
-    order
+    in_order(posts, |one, other| other.pay.cmp(&one.pay))
 }
 
 /// The whole parts of a week that is the plain average of the posts' weeks.
@@ -146,16 +144,17 @@ fn together(numbers: impl Iterator<Item = Rounded>) -> Rounded {
 }
 
 /// The pay of a post for its parts. That of a cut post is its part of a whole-time pay, which is its
-/// pay over its proportion of whole time in thousandths. At most one post is cut to some of its
-/// parts, so that each may be rounded.
+/// pay over its proportion of whole time in thousandths, and the supplement, not grossed up. At most
+/// one post is cut to some of its parts, so that each may be rounded.
 fn pay_by_proportion(post: &Post, parts: u64, minutes: u64) -> Rounded {
     if parts == post.contracted * minutes {
-        return Rounded::whole(post.pay);
+        return Rounded::whole(post.pay_in_full());
     }
     let week = u128::from(post.whole_time);
     let proportion = rounded(u128::from(post.contracted) * 1_000, week).max(1);
+    let thousandths = post.pay * 1_000 + post.supplement * proportion;
     Rounded::of(
-        u128::from(post.pay) * u128::from(parts) * 1_000,
+        u128::from(thousandths) * u128::from(parts),
         u128::from(minutes) * week * u128::from(proportion),
     )
 }

@@ -5,5 +5,6 @@ pub mod calls;
 pub mod damaged;
 pub mod employers;
 pub mod roundings;
+pub mod supplements;
 pub mod ten_pays;
 pub mod writing;

@@ -7,13 +7,14 @@ fn hours(hours: f64) -> u64 {
     (hours * 60.0) as u64
 }
 
-/// The bytes of posts of contracted minutes, whole-time minutes and pay.
+/// The bytes of posts of contracted minutes, whole-time minutes and pay, without supplements.
 fn records(list: &[(u64, u64, u64)]) -> Vec<u8> {
     let mut bytes = Vec::new();
     for &(contracted, whole_time, pay) in list {
         bytes.extend((contracted as u16).to_be_bytes());
         bytes.extend((whole_time as u16).to_be_bytes());
         bytes.extend((pay as u32).to_be_bytes());
+        bytes.extend([0; 4]);
     }
     bytes
 }
@@ -166,8 +167,8 @@ fn a_debit_equal_to_the_pension_passes() {
     let year = [
         LATE,
         "0207DF0000",
-        "0305DC08CA0027AC40",
-        "03038408CA00124F80",
+        "0305DC08CA0027AC4000000000",
+        "03038408CA00124F8000000000",
     ];
     let with = |debit: &'static str| outcome(&[&year[..], &[debit]].concat());
     let nothing_left = Outcome {
@@ -196,7 +197,7 @@ fn the_bounds_of_posts() {
     let seventeen = records(&[(100, 200, 54); 17]);
     assert_eq!(posts(&seventeen, &mut [0; 17]), (21, 0));
     assert_eq!(posts(&sixteen[1..], &mut [0; 16]), (23, 0));
-    let post = "03006400C800000036";
+    let post = "03006400C80000003600000000";
     let mut lines = vec![LATE, "0207DF0000"];
     lines.extend([post; 16]);
     assert_eq!(refusal(&lines), (0, 0));
@@ -209,8 +210,8 @@ fn the_printed_example() {
     let given = outcome(&[
         LATE,
         "0207DF0000",
-        "0305DC08CA0027AC40",
-        "03038408CA00124F80",
+        "0305DC08CA0027AC4000000000",
+        "03038408CA00124F8000000000",
     ]);
     assert_eq!(given.net_2015, 66_667);
     assert_eq!(

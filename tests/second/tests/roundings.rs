@@ -28,7 +28,7 @@ fn year(april: u64, revaluation: u64) -> String {
 }
 
 fn post(contracted: u64, whole_time: u64, pay: u64) -> String {
-    format!("03{contracted:04X}{whole_time:04X}{pay:08X}")
+    format!("03{contracted:04X}{whole_time:04X}{pay:08X}00000000")
 }
 
 fn whole_time(pay: u64) -> String {
@@ -85,7 +85,11 @@ fn pension_2015(member: &str, frames: &[String]) -> (u64, u64) {
 
 #[test]
 fn the_line_gains_two_bytes() {
-    let (year, first, second) = ("0207DF0000", "0305DC08CA0027AC40", "03038408CA00124F80");
+    let (year, first, second) = (
+        "0207DF0000",
+        "0305DC08CA0027AC4000000000",
+        "03038408CA00124F8000000000",
+    );
     // £36,000, an exact aggregate, is 54 times 66,666.67.
     assert_eq!(
         line(&[LATE, year, first, second]),
@@ -113,7 +117,7 @@ fn the_line_gains_two_bytes() {
 
 #[test]
 fn none_for_a_refused_case() {
-    let going_up = [LATE, "0207DF0000", "03000100010000001B"];
+    let going_up = [LATE, "0207DF0000", "03000100010000001B00000000"];
     assert_eq!(case(text(&going_up).as_bytes()).rounded_up, 1);
     let refused = |member, after: &str, refusal, line| {
         let mut lines = going_up.to_vec();

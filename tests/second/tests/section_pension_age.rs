@@ -22,7 +22,11 @@ fn member(section: u64, section_pension_age: u64) -> String {
 
 #[test]
 fn the_last_byte() {
-    let (year, first, second) = ("0207DF0000", "0305DC08CA0027AC40", "03038408CA00124F80");
+    let (year, first, second) = (
+        "0207DF0000",
+        "0305DC08CA0027AC4000000000",
+        "03038408CA00124F8000000000",
+    );
     let printed = line(&["0107B2040107F50401004300", year, first, second]);
     assert_eq!(
         printed,

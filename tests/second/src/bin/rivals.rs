@@ -1,14 +1,18 @@
 //! Tries rival workings: none may have a larger net pension sum or a larger net lump sum than the
 //! amounts that the case gives. Small cases are held against every rival there is, large ones
 //! against random and greedy rivals. The amounts are the engine's; a rival has no count of roundings.
+//! A rival's years are valued in minutes times rate, in which no division is better than the engine's;
+//! its own amounts count p + s for posts in full, which without a supplement is the same.
 
 use second::benefits::after_year;
 use second::cases::{Case, Year};
 use second::engine;
-use second::posts::{aggregate_of, filled, minutes_together, parts_of, parts_together, Post};
+use second::posts::{
+    filled, in_order, minutes_together, parts_of, parts_together, rival_aggregate, Post,
+};
 use second::random::Random;
 use second::samples::accepted;
-use second::samples::writing::case_text;
+use second::samples::writing::{case_text, post_records};
 use second::ten_pays::TenPays;
 use second::wide::Rounded;
 use second::Outcome;
@@ -20,6 +24,9 @@ const SEED: u64 = 0x0061_7661_6C73_0003;
 const SMALL_CASES: u64 = 4_000;
 const LARGE_CASES: u64 = 10_000;
 const RIVALS_OF_A_LARGE_CASE: usize = 60;
+
+/// The least number of small cases with a supplement and without, and of large ones.
+const LEAST_OF_EITHER: u64 = 1_000;
 
 /// The two amounts a rival is judged by; a net below zero stays so.
 #[derive(Clone, Copy, Debug, PartialEq, Eq)]
@@ -91,7 +98,7 @@ impl Divisions {
 
     fn add(&mut self, posts: &[Post], parts: &[u64]) {
         self.count += 1;
-        self.aggregates.insert(aggregate_of(posts, parts).number);
+        self.aggregates.insert(rival_aggregate(posts, parts).number);
     }
 
     /// Adds every division that has the parts so far before the place.
@@ -106,6 +113,24 @@ impl Divisions {
             self.add_all(posts, parts, place + 1, left - share);
         }
     }
+}
+
+/// Whether a post of a year has a supplement.
+fn has_supplement(case: &Case) -> bool {
+    let mut posts = case.years.iter().flat_map(|year| &year.posts);
+    posts.any(|post| post.supplement > 0)
+}
+
+/// The nets of the engine's own division of each year, valued as a rival's.
+fn nets_of_own_parts(case: &Case) -> Nets {
+    let worth = |year: &Year| {
+        let mut parts = vec![0; year.posts.len()];
+        let (refusal, _) = engine::posts(&post_records(&year.posts), &mut parts);
+        assert_eq!(refusal, 0);
+        rival_aggregate(&year.posts, &parts)
+    };
+    let aggregates: Vec<Rounded> = case.years.iter().map(worth).collect();
+    nets(case, case.pension_2015(&aggregates), case.final_year())
 }
 
 /// Holds a small case against every rival and gives their number. The pension after a year depends
@@ -138,12 +163,13 @@ fn try_every_rival(case: &Case) -> u128 {
             best_lump_sum = best_lump_sum.max(rival.lump_sum);
         }
     }
-    // The case's own working is one of the rivals.
+    // The case's own division is one of the rivals.
     let best = Nets {
         pensions: best_pensions,
         lump_sum: best_lump_sum,
     };
-    if best != given {
+    let own = nets_of_own_parts(case);
+    if best != own || (best != given && !has_supplement(case)) {
         fail(&text, given, best);
     }
     count * final_years(case).count() as u128
@@ -151,14 +177,28 @@ fn try_every_rival(case: &Case) -> u128 {
 
 /// The places of posts in one of several orders.
 fn some_order(random: &mut Random, posts: &[Post]) -> Vec<usize> {
-    let mut order: Vec<usize> = (0..posts.len()).collect();
-    match random.below(4) {
-        0 => random.shuffle(&mut order),
-        1 => order.sort_by_key(|&place| std::cmp::Reverse(posts[place].pay)),
-        2 => order.sort_by_key(|&place| posts[place].contracted),
-        _ => order.sort_by_key(|&place| posts[place].pay * 1_000 / posts[place].contracted),
-    }
-    order
+    let key: fn(&Post) -> u64 = match random.below(7) {
+        0 => |post| post.pay,
+        1 => |post| post.contracted,
+        2 => |post| post.pay * 1_000 / post.contracted,
+        3 => |post| post.supplement,
+        4 => |post| post.pay_in_full(),
+        5 => |post| post.pay_in_full() * 1_000 / post.contracted,
+        _ => {
+            let mut order: Vec<usize> = (0..posts.len()).collect();
+            random.shuffle(&mut order);
+            return order;
+        }
+    };
+    let falling = random.one_in(2);
+    in_order(posts, |one, other| {
+        let rising = key(one).cmp(&key(other));
+        if falling {
+            rising.reverse()
+        } else {
+            rising
+        }
+    })
 }
 
 /// Any shares for the posts in any order, each within what is left.
@@ -220,7 +260,7 @@ fn try_some_rivals(random: &mut Random, case: &Case) -> u64 {
         let aggregates: Vec<Rounded> = case
             .years
             .iter()
-            .map(|year| aggregate_of(&year.posts, &rival_parts(random, &year.posts)))
+            .map(|year| rival_aggregate(&year.posts, &rival_parts(random, &year.posts)))
             .collect();
         let rival = nets(case, case.pension_2015(&aggregates), final_year);
         if rival.pensions > given.pensions || rival.lump_sum > given.lump_sum {
@@ -231,24 +271,64 @@ fn try_some_rivals(random: &mut Random, case: &Case) -> u64 {
     as_good
 }
 
-fn main() {
-    let mut random = Random::new(SEED);
+/// How many cases have a supplement and how many have none. Some of either must be there.
+#[derive(Default)]
+struct Supplements {
+    with: u64,
+    without: u64,
+}
+
+impl Supplements {
+    fn add(&mut self, case: &Case) {
+        if has_supplement(case) {
+            self.with += 1;
+        } else {
+            self.without += 1;
+        }
+    }
+
+    fn print(&self) {
+        let Supplements { with, without } = self;
+        println!("{with} with a supplement, {without} with none");
+        if (*with).min(*without) < LEAST_OF_EITHER {
+            println!("of either at least {LEAST_OF_EITHER}");
+            exit(1);
+        }
+    }
+}
+
+fn try_small_cases(random: &mut Random) {
     let mut every = 0;
     let mut by_section = [0; 3];
+    let mut supplements = Supplements::default();
     for _ in 0..SMALL_CASES {
-        let case = accepted::small_case(&mut random);
+        let case = accepted::small_case(random);
         every += try_every_rival(&case);
         by_section[case.section() as usize] += 1;
+        supplements.add(&case);
     }
     let [none, of_1995, of_2008] = by_section;
     println!("{SMALL_CASES} small cases, all of {every} rivals:");
     println!("{none} without a section, {of_1995} in the 1995 Section, {of_2008} in the 2008");
+    supplements.print();
+}
+
+fn try_large_cases(random: &mut Random) {
     let mut as_good = 0;
+    let mut supplements = Supplements::default();
     for _ in 0..LARGE_CASES {
-        let case = accepted::case(&mut random);
-        as_good += try_some_rivals(&mut random, &case);
+        let case = accepted::case(random);
+        as_good += try_some_rivals(random, &case);
+        supplements.add(&case);
     }
     let some = LARGE_CASES * RIVALS_OF_A_LARGE_CASE as u64;
-    println!("{LARGE_CASES} large cases, {some} rivals, {as_good} of them as good");
+    println!("{LARGE_CASES} large cases, {some} rivals, {as_good} of them as good:");
+    supplements.print();
+}
+
+fn main() {
+    let mut random = Random::new(SEED);
+    try_small_cases(&mut random);
+    try_large_cases(&mut random);
     println!("no rival is better");
 }

@@ -6,6 +6,7 @@ use crate::cases::{Benefits, Case, Year, MOST_YEARS};
 use crate::frames::{Debit, Factor, Member, LARGEST_TEXT};
 use crate::posts::{Post, MOST_POSTS};
 use crate::random::Random;
+use crate::samples::supplements::{telling_posts, with_supplements};
 use crate::samples::ten_pays::ten_pays;
 use crate::wide::rounded;
 use crate::LARGEST_PAY;
@@ -24,6 +25,7 @@ fn part_time_post(random: &mut Random) -> Post {
         contracted: random.pick(&[fewer, fewer, any, whole_time - 1]),
         whole_time,
         pay: random.of_any_size(LARGEST_PAY),
+        supplement: 0,
     }
 }
 
@@ -43,6 +45,7 @@ fn posts_of_near_rates(random: &mut Random) -> Vec<Post> {
                 contracted,
                 whole_time: contracted + spare,
                 pay: pay * times + aside - 1,
+                supplement: 0,
             }
         })
         .collect()
@@ -67,6 +70,7 @@ fn posts_of_one_contract(random: &mut Random) -> Vec<Post> {
                 contracted,
                 whole_time: (contracted + spare).min(10_080),
                 pay: random.pick(&[near, near, near, any]),
+                supplement: 0,
             }
         })
         .collect()
@@ -82,6 +86,7 @@ pub fn small_posts(random: &mut Random, most: u64, most_minutes: u64, most_pay: 
                 contracted,
                 whole_time: contracted + random.between(1, 3),
                 pay: random.between(0, most_pay),
+                supplement: 0,
             }
         })
         .collect()
@@ -97,6 +102,7 @@ fn posts_at_ends(random: &mut Random) -> Vec<Post> {
                 contracted: random.pick(&[1, whole_time - 1]),
                 whole_time,
                 pay: random.pick(&[0, 1, LARGEST_PAY - 1, LARGEST_PAY]),
+                supplement: 0,
             }
         })
         .collect()
@@ -113,21 +119,32 @@ fn with_whole_time_post(random: &mut Random, mut posts: Vec<Post>) -> Vec<Post> 
     posts
 }
 
-/// The posts of a year.
-pub fn post_list(random: &mut Random) -> Vec<Post> {
-    let posts = match random.below(14) {
-        0 => return Vec::new(),
-        1..=4 => {
+/// Posts without supplements, none of them whole-time.
+fn plain_posts(random: &mut Random) -> Vec<Post> {
+    match random.below(13) {
+        0..=3 => {
             let count = random.between(1, 4);
             (0..count).map(|_| part_time_post(random)).collect()
         }
-        5..=7 => posts_of_near_rates(random),
-        8..=9 => small_posts(random, 4, 6, 400),
-        10 => posts_at_ends(random),
-        11..=12 => posts_of_one_contract(random),
+        4..=6 => posts_of_near_rates(random),
+        7..=8 => small_posts(random, 4, 6, 400),
+        9 => posts_at_ends(random),
+        10..=11 => posts_of_one_contract(random),
         _ => {
             let count = random.between(8, MOST_POSTS as u64);
             (0..count).map(|_| part_time_post(random)).collect()
+        }
+    }
+}
+
+/// The posts of a year.
+pub fn post_list(random: &mut Random) -> Vec<Post> {
+    let posts = match random.below(16) {
+        0 => return Vec::new(),
+        1..=3 => telling_posts(random),
+        _ => {
+            let posts = plain_posts(random);
+            with_supplements(random, posts, LARGEST_PAY)
         }
     };
     if random.one_in(6) {
@@ -434,7 +451,8 @@ pub fn small_case(random: &mut Random) -> Case {
     let most_pay = random.pick(&[60, 400, 1_500]);
     for year in &mut years {
         let (most, minutes) = random.pick(&[(2, 6), (3, 3), (3, 4), (4, 2)]);
-        year.posts = small_posts(random, most, minutes, most_pay);
+        let posts = small_posts(random, most, minutes, most_pay);
+        year.posts = with_supplements(random, posts, most_pay);
         if random.one_in(8) {
             let place = random.place(year.posts.len());
             year.posts[place].contracted = year.posts[place].whole_time;
@@ -486,7 +504,7 @@ pub fn largest_case(random: &mut Random) -> Case {
     loop {
         let mut case = case_with(random, section, MOST_YEARS as u64);
         for year in &mut case.years {
-            year.posts = small_posts(random, 1, 40, 9_000);
+            year.posts = one_small_post(random);
         }
         case.debits.clear();
         fill_posts(random, &mut case);
@@ -496,8 +514,14 @@ pub fn largest_case(random: &mut Random) -> Case {
     }
 }
 
+/// One post of few minutes and pence, at times with a supplement.
+fn one_small_post(random: &mut Random) -> Vec<Post> {
+    let posts = small_posts(random, 1, 40, 9_000);
+    with_supplements(random, posts, 9_000)
+}
+
 /// The bytes of a post's line, and of a factor's, each with its 0A.
-const POST_LINE: usize = 19;
+const POST_LINE: usize = 27;
 const FACTOR_LINE: usize = 17;
 
 /// The bytes of all lines but factors of a case of the most years, with so many posts.
@@ -508,10 +532,10 @@ fn other_lines(case: &Case, posts: usize) -> usize {
 
 /// Adds posts until the rest of the largest text can be filled with factors.
 fn fill_posts(random: &mut Random, case: &mut Case) {
-    let least = random.between(620, 780);
+    let least = random.between(450, 780);
     for count in MOST_YEARS as u64.. {
         let year = &mut case.years[count as usize % MOST_YEARS];
-        year.posts.extend(small_posts(random, 1, 40, 9_000));
+        year.posts.extend(one_small_post(random));
         let other = other_lines(case, count as usize + 1);
         if count >= least && (LARGEST_TEXT - other) % FACTOR_LINE == 0 {
             return;

@@ -2,7 +2,7 @@
 
 use crate::benefits::FinalPay;
 use crate::calendar::{month_length, Date};
-use crate::posts::{Post, MOST_POSTS};
+use crate::posts::{Post, MOST_POSTS, POST_BYTES};
 use crate::random::Random;
 use crate::samples::accepted;
 use crate::samples::writing::post_records;
@@ -34,13 +34,13 @@ pub fn any_posts_call(random: &mut Random) -> PostsCall {
         if !bytes.is_empty() {
             let place = random.place(bytes.len());
             let any = random.word() as u8;
-            bytes[place] = random.pick(&[0, 1, 0x27, 0x60, 0x61, any]);
+            bytes[place] = random.pick(&[0, 1, 0x27, 0x3B, 0x60, 0x61, any]);
         }
     }
-    let length = bytes.len() + random.pick(&[0, 0, 0, 0, 0, 1, 8]);
+    let length = bytes.len() + random.pick(&[0, 0, 0, 0, 0, 1, 8, POST_BYTES]);
     bytes.resize(length, 1);
     PostsCall {
-        places: (bytes.len() / 8 + random.place(3)).saturating_sub(random.place(2)),
+        places: (bytes.len() / POST_BYTES + random.place(3)).saturating_sub(random.place(2)),
         bytes,
     }
 }
@@ -65,7 +65,8 @@ pub(super) const fn cause<Input>(
 }
 
 pub const POSTS_CAUSES: &[CallCause<PostsCall>] = &[
-    cause(23, "a length no multiple of 8", no_multiple),
+    cause(23, "a length no multiple of 12", no_multiple),
+    cause(23, "posts of 8 bytes", posts_of_8_bytes),
     cause(23, "23 before 21 and 22", no_multiple_and_many),
     cause(21, "over 16 posts", many_posts),
     cause(21, "21 before 22 and 7", many_bad_posts),
@@ -77,7 +78,35 @@ pub const POSTS_CAUSES: &[CallCause<PostsCall>] = &[
     cause(7, "h above w", |random| bad_post(random, hours_past_week)),
     cause(7, "w above 10,080", |random| bad_post(random, long_week)),
     cause(7, "p too large", |random| bad_post(random, large_pay)),
+    cause(7, "s too large", |random| {
+        bad_post(random, large_supplement)
+    }),
+    cause(7, "s of 1,000,000,001", |random| {
+        bad_post(random, |_, post| post.supplement = LARGEST_PAY + 1)
+    }),
+    cause(7, "s of 4,294,967,295", |random| {
+        bad_post(random, |_, post| post.supplement = 0xFFFF_FFFF)
+    }),
+    cause(7, "s too large for a post of no pay", |random| {
+        bad_post(random, |random, post| {
+            post.pay = 0;
+            large_supplement(random, post);
+        })
+    }),
+    cause(7, "s too large for a whole-time post", |random| {
+        bad_post(random, |random, post| {
+            post.contracted = post.whole_time;
+            large_supplement(random, post);
+        })
+    }),
     cause(7, "7 of an earlier post before 8", seven_first),
+    cause(7, "7 before 8: s too large", |random| {
+        let mut posts = two_whole_time(random);
+        for post in &mut posts[1..] {
+            large_supplement(random, post);
+        }
+        call_of(random, &posts)
+    }),
     cause(8, "a second whole-time post", eight),
     cause(8, "8 before 7 of a later post", eight_first),
 ];
@@ -102,14 +131,27 @@ fn call_of(random: &mut Random, posts: &[Post]) -> PostsCall {
 
 fn no_multiple(random: &mut Random) -> PostsCall {
     let mut call = posts_call(random);
-    let more = random.between(1, 7);
+    let more = random.between(1, POST_BYTES as u64 - 1);
     call.bytes.extend((0..more).map(|_| random.word() as u8));
     call.places += random.pick(&[0, 1]);
     call
 }
 
+/// Posts of the earlier length, so many that their bytes are a multiple of 8 and not of 12.
+fn posts_of_8_bytes(random: &mut Random) -> PostsCall {
+    let posts = posts_of_at_least(random, 1);
+    if posts.len() % 3 == 0 {
+        return posts_of_8_bytes(random);
+    }
+    let mut call = call_of(random, &posts);
+    let records = call.bytes.chunks(POST_BYTES);
+    call.bytes = records.flat_map(|post| post[..8].to_vec()).collect();
+    call
+}
+
 fn no_multiple_and_many(random: &mut Random) -> PostsCall {
-    let length = 8 * random.near_ends(16, 40) + random.between(1, 7);
+    let posts = POST_BYTES as u64 * random.near_ends(16, 40);
+    let length = posts + random.between(1, POST_BYTES as u64 - 1);
     PostsCall {
         bytes: (0..length).map(|_| random.word() as u8).collect(),
         places: random.between(0, 50) as usize,
@@ -125,16 +167,16 @@ fn many_posts(random: &mut Random) -> PostsCall {
 }
 
 fn many_bad_posts(random: &mut Random) -> PostsCall {
-    let count = random.near_ends(MOST_POSTS as u64 + 1, 60);
+    let length = POST_BYTES as u64 * random.near_ends(MOST_POSTS as u64 + 1, 60);
     PostsCall {
-        bytes: (0..8 * count).map(|_| random.word() as u8).collect(),
+        bytes: (0..length).map(|_| random.word() as u8).collect(),
         places: random.between(0, 70) as usize,
     }
 }
 
 fn few_places(random: &mut Random) -> PostsCall {
     let mut call = posts_call(random);
-    let count = call.bytes.len() / 8;
+    let count = call.bytes.len() / POST_BYTES;
     if count == 0 {
         return few_places(random);
     }
@@ -167,6 +209,10 @@ fn long_week(random: &mut Random, post: &mut Post) {
 
 fn large_pay(random: &mut Random, post: &mut Post) {
     post.pay = random.near_ends(LARGEST_PAY + 1, 0xFFFF_FFFF);
+}
+
+fn large_supplement(random: &mut Random, post: &mut Post) {
+    post.supplement = random.near_ends(LARGEST_PAY + 1, 0xFFFF_FFFF);
 }
 
 /// Three posts, two of which are whole-time.

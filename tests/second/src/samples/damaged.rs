@@ -1,4 +1,4 @@
-//! Texts that are refused, by every cause that document 01 and requests 2.4 and 2.5 name.
+//! Texts that are refused, by every cause that document 01 and requests 2.4, 2.5 and 2.7 name.
 
 mod closing;
 mod fields;
@@ -153,10 +153,10 @@ const BYTE: u64 = 0xFF;
 const PAIR: u64 = 0xFFFF;
 const FOUR: u64 = 0xFFFF_FFFF;
 
-/// The first number past a pay or pot.
+/// The first number past a pay, supplement or pot.
 const PAST_PAY: u64 = LARGEST_PAY + 1;
 
-/// Every cause that document 01 names, in its order, those of requests 2.4 and 2.5 among them.
+/// Every cause that document 01 names, in its order, those of requests 2.4, 2.5 and 2.7 among them.
 pub const CAUSES: &[Cause] = &[
     own(1, "a text one byte over", lines::one_byte_over),
     own(1, "a text far over", lines::far_over),
@@ -187,6 +187,14 @@ pub const CAUSES: &[Cause] = &[
         3,
         "01 of the earlier length, of section 3",
         fields::earlier_length_of_section_3,
+    ),
+    length("03 of the earlier length", 3, 9),
+    length("03 of 12 bytes", 3, 12),
+    length("03 of 14 bytes", 3, 14),
+    own(
+        3,
+        "03 of the earlier length, of h = 0",
+        fields::earlier_length_of_no_minutes,
     ),
     length("08 of 42 bytes", 8, 42),
     length("08 of 44 bytes", 8, 44),
@@ -295,8 +303,16 @@ pub const CAUSES: &[Cause] = &[
     own(7, "h above w", fields::hours_past_week),
     field(7, "w above 10,080", (3, 3, 2), (10_081, PAIR)),
     field(7, "p too large", (3, 5, 4), (PAST_PAY, FOUR)),
+    field(7, "s too large", (3, 9, 4), (PAST_PAY, FOUR)),
+    field(7, "s of 1,000,000,001", (3, 9, 4), (PAST_PAY, PAST_PAY)),
+    field(7, "s of 4,294,967,295", (3, 9, 4), (FOUR, FOUR)),
     own(7, "a 17th post", fields::seventeenth_post),
     own(7, "7 before 8: p too large", fields::seven_before_eight),
+    own(
+        7,
+        "7 before 8: s too large",
+        fields::supplement_before_eight,
+    ),
     own(7, "7 before 8: a 17th post", fields::seventeenth_whole_time),
     own(8, "a second whole-time post", fields::second_whole_time),
     field(9, "pay 4 too large", (4, 1, 4), (PAST_PAY, FOUR)),

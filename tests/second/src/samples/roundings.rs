@@ -6,6 +6,7 @@ use crate::frames::{Debit, Factor, Member};
 use crate::posts::{aggregate, Post};
 use crate::random::Random;
 use crate::samples::accepted::{final_pay, member, most_section_debit, small_posts};
+use crate::samples::supplements::with_supplements;
 use crate::samples::ten_pays::ten_pays;
 use crate::wide::{Rounded, Way};
 
@@ -34,7 +35,10 @@ fn all_up(case: &Case) -> bool {
 /// Posts whose aggregate and its 54th go up, the latter to 3 pence at least: less could not go up with
 /// the revaluations that there are.
 fn posts_going_up(random: &mut Random) -> Option<Vec<Post>> {
-    let draw = |random: &mut Random| small_posts(random, 4, 6, 2_000);
+    let draw = |random: &mut Random| {
+        let posts = small_posts(random, 4, 6, 2_000);
+        with_supplements(random, posts, 2_000)
+    };
     drawn(random, draw, |posts| {
         let pay = aggregate(posts);
         let added = accrued(pay.number);

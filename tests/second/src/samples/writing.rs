@@ -40,7 +40,12 @@ pub fn year_frame(april: u64, revaluation: u64) -> Vec<u8> {
 pub fn post_frame(post: &Post) -> Vec<u8> {
     frame(
         0x03,
-        &[(2, post.contracted), (2, post.whole_time), (4, post.pay)],
+        &[
+            (2, post.contracted),
+            (2, post.whole_time),
+            (4, post.pay),
+            (4, post.supplement),
+        ],
     )
 }
 

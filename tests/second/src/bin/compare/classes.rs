@@ -5,33 +5,43 @@ use second::calendar::{completed_by_last_day, dates_of, months_early};
 use second::cases::{Case, Year};
 use second::frames::Member;
 use second::posts::{minutes_together, parts_of, parts_together, Post};
+use std::cmp::Ordering;
 
 /// Whether some post of a year without a whole-time post has fewer parts than its own minutes.
-fn is_cut(posts: &[Post]) -> bool {
+pub fn is_cut(posts: &[Post]) -> bool {
     let minutes = minutes_together(posts);
     !posts.iter().any(Post::is_whole_time) && minutes * minutes > parts_together(posts)
+}
+
+/// Whether two posts have the same rate, which is not nought.
+fn of_equal_rates(one: &Post, other: &Post) -> bool {
+    one.pay_in_full() > 0 && one.compare_rates(other) == Ordering::Equal
 }
 
 /// Whether two of the posts have the same rate, which is not nought.
 fn has_equal_rates(posts: &[Post]) -> bool {
     posts.iter().enumerate().any(|(place, one)| {
-        let same = |other: &Post| one.pay * other.contracted == other.pay * one.contracted;
-        one.pay > 0 && posts[place + 1..].iter().any(same)
+        let mut later = posts[place + 1..].iter();
+        later.any(|other| of_equal_rates(one, other))
+    })
+}
+
+/// Whether an earlier and a later post, which pass the test, have other parts for their time.
+pub fn cut_decides_between(posts: &[Post], test: impl Fn(&Post, &Post) -> bool) -> bool {
+    if !is_cut(posts) {
+        return false;
+    }
+    let parts = parts_of(posts);
+    let given = |place: usize| parts[place] * 10_000_000 / posts[place].contracted;
+    (0..posts.len()).any(|one| {
+        (one + 1..posts.len())
+            .any(|other| test(&posts[one], &posts[other]) && given(one) != given(other))
     })
 }
 
 /// Whether the parts end within a post that has an equal beside it with other parts for its time.
 fn cut_decides_between_equals(posts: &[Post]) -> bool {
-    let parts = parts_of(posts);
-    let given = |place: usize| parts[place] * 10_000_000 / posts[place].contracted;
-    let same = |one: &Post, other: &Post| {
-        one.pay > 0 && one.pay * other.contracted == other.pay * one.contracted
-    };
-    is_cut(posts)
-        && (0..posts.len()).any(|one| {
-            (one + 1..posts.len())
-                .any(|other| same(&posts[one], &posts[other]) && given(one) != given(other))
-        })
+    cut_decides_between(posts, of_equal_rates)
 }
 
 /// How many posts have the h of this one.
@@ -58,12 +68,14 @@ fn cut_decides(posts: &[Post], test: fn(&Post, &Post) -> bool) -> bool {
     is_cut(posts) && full.iter().any(passes)
 }
 
+/// Whether pays alone decide between two posts.
 fn of_one_contract(one: &Post, other: &Post) -> bool {
-    one.contracted == other.contracted
+    let supplemented = one.supplement > 0 || other.supplement > 0;
+    one.contracted == other.contracted && !supplemented
 }
 
-/// Whether besides most posts having one h, of two with the same h one has all its parts and the
-/// other not.
+/// Whether besides most posts having one h, of two with the same h and no supplement one has all its
+/// parts and the other not.
 fn cut_on_one_contract(posts: &[Post]) -> bool {
     mostly_of_one_contract(posts) && cut_decides(posts, of_one_contract)
 }
@@ -121,7 +133,7 @@ fn cut_years(case: &Case) -> usize {
     case.years.iter().filter(cut).count()
 }
 
-fn any_year(case: &Case, test: fn(&[Post]) -> bool) -> bool {
+pub fn any_year(case: &Case, test: fn(&[Post]) -> bool) -> bool {
     case.years.iter().any(|year| test(&year.posts))
 }
 

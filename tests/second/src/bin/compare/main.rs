@@ -4,6 +4,7 @@
 mod classes;
 mod employers;
 mod roundings;
+mod supplements;
 mod tally;
 mod ten_pays;
 
@@ -13,7 +14,7 @@ use classes::{
 use employers::CHANGE_CLASSES;
 use roundings::{classify_roundings, expect_roundings, Listed, COUNT_CLASSES};
 use second::cases::{read, Case};
-use second::engine;
+use second::posts::{Post, POST_BYTES};
 use second::random::Random;
 use second::samples::calls::{
     abatement_call, any_abatement_call, any_charge_call, any_dates_call, any_posts_call,
@@ -24,10 +25,12 @@ use second::samples::damaged::mixed::{mixed_frames, one_byte_changed, random_dam
 use second::samples::damaged::CAUSES;
 use second::samples::employers::{any_change_call, change_call, CHANGE_CAUSES};
 use second::samples::roundings::case_going_up;
-use second::samples::writing::case_text;
+use second::samples::writing::{case_text, post_records};
 use second::samples::{accepted, writing};
+use second::{document_01, engine};
 use std::fmt::Debug;
 use std::process::exit;
+use supplements::{SUPPLEMENT_CASE_CLASSES, SUPPLEMENT_CLASSES};
 use tally::Tally;
 use ten_pays::TEN_PAYS_CLASSES;
 
@@ -55,6 +58,11 @@ const CHARGE: &str = "charge";
 const DATES: &str = "dates";
 const ABATEMENT: &str = "abatement";
 const CHANGE: &str = "change of employer";
+
+/// The classes of what is worked once more without supplements, by document 01's rule.
+const PLAIN_CASES: &str = "case: once more without supplements, by document 01's rule";
+const ACCEPTED_PLAIN_CASES: &str = "case: the same, accepted";
+const PLAIN_POSTS: &str = "posts: once more without supplements, by document 01's rule";
 
 /// Guard words on either side of the lent places.
 const GUARDS: usize = 4;
@@ -118,6 +126,7 @@ fn compare_case(tally: &mut Tally, text: &[u8]) -> (u64, u64) {
         let case = read(text).expect("an accepted text");
         classify(tally, CASE, CASE_CLASSES, &case);
         classify(tally, CASE, TEN_PAYS_CLASSES, &case);
+        classify(tally, CASE, SUPPLEMENT_CASE_CLASSES, &case);
         let listed = Listed::of(&case);
         classify(tally, CASE, COUNT_CLASSES, &listed);
         classify_roundings(tally, CASE, &listed);
@@ -131,14 +140,39 @@ fn compare_case(tally: &mut Tally, text: &[u8]) -> (u64, u64) {
     (expected.refusal, expected.line)
 }
 
-/// Compares an accepted case by its text.
+/// Takes the supplements out of a case and compares it by document 01's rule. A debit may then be above
+/// what it is taken from.
+fn compare_plain_case(tally: &mut Tally, mut case: Case) {
+    for year in &mut case.years {
+        year.posts = plain(&year.posts);
+    }
+    let text = case_text(&case);
+    let (expected, given) = (document_01::closed(&case), engine::case(&text));
+    if given != expected {
+        fail(PLAIN_CASES, &hexadecimal(&text), given, expected);
+    }
+    tally.add(ALL_INPUTS);
+    tally.add(PLAIN_CASES);
+    if expected.refusal == 0 {
+        tally.add(ACCEPTED_PLAIN_CASES);
+    }
+}
+
+/// The posts without their supplements.
+fn plain(posts: &[Post]) -> Vec<Post> {
+    let posts = posts.iter().copied();
+    posts.map(Post::without_supplement).collect()
+}
+
+/// Compares an accepted case by its text, then once more without supplements.
 fn compare_accepted(tally: &mut Tally, case: Case) {
     let text = case_text(&case);
     let given = compare_case(tally, &text);
     hold_to_cause(CASE, "accepted", &hexadecimal(&text), (0, 0), given);
-    if read(&text) != Ok(case) {
+    if read(&text).as_ref() != Ok(&case) {
         fail(CASE, &hexadecimal(&text), "another case", "the case drawn");
     }
+    compare_plain_case(tally, case);
     if text.len() == second::frames::LARGEST_TEXT {
         tally.add("case: accepted, 32,768 bytes");
     }
@@ -193,7 +227,7 @@ fn compare_posts(tally: &mut Tally, random: &mut Random, call: &PostsCall) -> u6
     if (given, &lent) != (expected, &own) {
         fail(POSTS, &input(), (given, lent), (expected, own));
     }
-    let posts = call.bytes.len() / 8;
+    let posts = call.bytes.len() / POST_BYTES;
     let unwritten = if expected.0 == 0 { GUARDS + posts } else { 0 };
     if lent[..GUARDS] != before[..GUARDS] || lent[unwritten..] != before[unwritten..] {
         fail(POSTS, &input(), lent, before);
@@ -209,12 +243,30 @@ fn compare_posts(tally: &mut Tally, random: &mut Random, call: &PostsCall) -> u6
     expected.0
 }
 
+/// Compares accepted posts without supplements by document 01's rule.
+fn compare_plain_posts(tally: &mut Tally, posts: &[Post]) {
+    let bytes = post_records(posts);
+    let mut parts = vec![0; posts.len()];
+    let given = engine::posts(&bytes, &mut parts);
+    let own = document_01::parts_of(posts);
+    let expected = (0, document_01::aggregate_of(posts, &own).number);
+    if (given, &parts) != (expected, &own) {
+        let input = hexadecimal(&bytes);
+        fail(PLAIN_POSTS, &input, (given, parts), (expected, own));
+    }
+    tally.add(ALL_INPUTS);
+    tally.add(PLAIN_POSTS);
+}
+
 fn compare_all_posts(tally: &mut Tally, random: &mut Random) {
     for _ in 0..CALLS {
         let call = posts_call(random);
         let refusal = compare_posts(tally, random, &call);
         hold_to_cause(POSTS, "accepted", &hexadecimal(&call.bytes), 0, refusal);
-        classify(tally, POSTS, POSTS_CLASSES, &posts_of(&call.bytes));
+        let posts = posts_of(&call.bytes);
+        classify(tally, POSTS, POSTS_CLASSES, &posts);
+        classify(tally, POSTS, SUPPLEMENT_CLASSES, &posts);
+        compare_plain_posts(tally, &plain(&posts));
     }
     for _ in 0..ANY_CALLS {
         let call = any_posts_call(random);
@@ -233,10 +285,11 @@ fn compare_all_posts(tally: &mut Tally, random: &mut Random) {
 }
 
 /// The posts of accepted bytes, read through a text of one year.
-fn posts_of(bytes: &[u8]) -> Vec<second::posts::Post> {
+fn posts_of(bytes: &[u8]) -> Vec<Post> {
     let mut frames = vec![b"\x01\x07\xB2\x04\x01\x07\xF5\x04\x01\x00\x43\x00".to_vec()];
     frames.push(vec![2, 0x07, 0xDF, 0, 0]);
-    frames.extend(bytes.chunks(8).map(|record| [&[3], record].concat()));
+    let records = bytes.chunks(POST_BYTES);
+    frames.extend(records.map(|record| [&[3], record].concat()));
     let text = writing::text_of(&writing::lines_of(&frames));
     let mut case = read(&text).expect("a case of accepted posts");
     case.years.remove(0).posts
@@ -357,6 +410,9 @@ fn expected() -> Tally {
     tally.expect("case: accepted, 32,768 bytes", 50);
     expect_classes(&mut tally, CASE, CASE_CLASSES);
     expect_classes(&mut tally, CASE, TEN_PAYS_CLASSES);
+    expect_classes(&mut tally, CASE, SUPPLEMENT_CASE_CLASSES);
+    tally.expect(PLAIN_CASES, CASES);
+    tally.expect(ACCEPTED_PLAIN_CASES, 50_000);
     expect_classes(&mut tally, CASE, COUNT_CLASSES);
     expect_roundings(&mut tally, CASE);
     tally.expect("case: refused at a line above 255", 50);
@@ -368,6 +424,8 @@ fn expected() -> Tally {
     tally.expect("posts: accepted", CALLS);
     tally.expect("posts: spare places", 1_000);
     expect_classes(&mut tally, POSTS, POSTS_CLASSES);
+    expect_classes(&mut tally, POSTS, SUPPLEMENT_CLASSES);
+    tally.expect(PLAIN_POSTS, CALLS);
     for cause in POSTS_CAUSES {
         tally.expect(&cause_words(POSTS, cause.refusal, cause.words), 50);
     }

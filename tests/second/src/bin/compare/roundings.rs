@@ -1,10 +1,12 @@
 //! The classes of accepted cases by their roundings: each step that rounds gone each way, and counts of
 //! upward ones.
 
-use crate::classes::Test;
+use crate::classes::{any_year, Test};
+use crate::supplements::has_supplement;
 use crate::tally::Tally;
 use second::benefits::reduced;
 use second::cases::Case;
+use second::posts::{aggregate, parts_of, rival_aggregate, Post};
 use second::roundings::{rounded_up, Rounding, Step};
 use second::ten_pays::TenPays;
 use second::wide::{Rounded, Way};
@@ -111,6 +113,18 @@ fn up_but_for_months(listed: &Listed) -> bool {
     })
 }
 
+/// Whether the aggregate of posts with a supplement goes up.
+fn up_with_supplement(posts: &[Post]) -> bool {
+    has_supplement(posts) && aggregate(posts).way == Way::Up
+}
+
+/// Whether an aggregate goes up which would not if posts in full counted minutes times rate, or the
+/// other way round.
+fn up_by_full_posts(posts: &[Post]) -> bool {
+    let up = |given: Rounded| given.way == Way::Up;
+    up(aggregate(posts)) != up(rival_aggregate(posts, &parts_of(posts)))
+}
+
 /// The classes that are about more than one step.
 pub const COUNT_CLASSES: &[Test<Listed>] = &[
     ("nothing rounded up", 1_000, |listed| listed.count() == 0),
@@ -153,6 +167,24 @@ pub const COUNT_CLASSES: &[Test<Listed>] = &[
     ("all but one rounded up in the 2008 Section", 20, |listed| {
         listed.has(2, 155)
     }),
+    (
+        "an aggregate with a supplement alone rounded up",
+        100,
+        |listed| listed.up_alone(&[Step::Aggregate]) && any_year(&listed.case, up_with_supplement),
+    ),
+    (
+        "an aggregate up, or not, by p + s of full posts",
+        1_000,
+        |listed| any_year(&listed.case, up_by_full_posts),
+    ),
+    (
+        "all but one rounded up, years with supplements among them",
+        100,
+        |listed| {
+            listed.count() + 1 == listed.list.len() as u64
+                && any_year(&listed.case, up_with_supplement)
+        },
+    ),
     (
         "an allowed year rounded up beside that of final pay",
         1_000,

@@ -4,6 +4,7 @@
 use crate::markdown::{Block, Document};
 use crate::repository::{Faults, Repository};
 use second::engine;
+use second::posts::POST_BYTES;
 
 /// The lines that the engine and the second program give for a block.
 struct Answers {
@@ -56,7 +57,7 @@ fn bytes_of(lines: &[String]) -> Option<Vec<u8>> {
     let mut bytes = Vec::new();
     for line in lines {
         let digits: Option<Vec<u32>> = line.chars().map(|c| c.to_digit(16)).collect();
-        let digits = digits.filter(|digits| digits.len() == 16)?;
+        let digits = digits.filter(|digits| digits.len() == 2 * POST_BYTES)?;
         let pairs = digits.chunks(2).map(|pair| (pair[0] * 16 + pair[1]) as u8);
         bytes.extend(pairs);
     }
@@ -65,7 +66,7 @@ fn bytes_of(lines: &[String]) -> Option<Vec<u8>> {
 
 /// The lines of a posts call with as many places as posts.
 fn parts_by(call: fn(&[u8], &mut [u64]) -> (u64, u64), bytes: &[u8]) -> Vec<String> {
-    let mut places = vec![0; bytes.len() / 8];
+    let mut places = vec![0; bytes.len() / POST_BYTES];
     let (refusal, number) = call(bytes, &mut places);
     let mut lines = vec![format!("refusal {refusal}, {number} pence")];
     if refusal == 0 && !places.is_empty() {
@@ -76,7 +77,7 @@ fn parts_by(call: fn(&[u8], &mut [u64]) -> (u64, u64), bytes: &[u8]) -> Vec<Stri
 }
 
 fn posts(lines: &[String]) -> Result<Answers, String> {
-    let bytes = bytes_of(lines).ok_or("a line that is not 16 hexadecimal digits")?;
+    let bytes = bytes_of(lines).ok_or("a line that is not 24 hexadecimal digits")?;
     Ok(Answers {
         engine: parts_by(engine::posts, &bytes),
         second: parts_by(second::posts, &bytes),

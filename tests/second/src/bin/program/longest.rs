@@ -7,9 +7,9 @@ use second::frames::{Debit, Factor, Member};
 use second::posts::{Post, MOST_POSTS};
 use second::samples::writing::case_text;
 
-/// Lines of 25 and 57 bytes, 50 of 11, and with these 32,768: 785 of 19, 1,011 of 17 and 2 of 17.
-const POSTS: usize = 785;
-const FACTORS: [u64; 2] = [600, 411];
+/// Lines of 25 and 57 bytes, 50 of 11, and with these 32,768: 786 of 27, 640 of 17 and 2 of 17.
+const POSTS: usize = 786;
+const FACTORS: [u64; 2] = [600, 40];
 
 fn member() -> Member {
     let on = |year| Date {
@@ -32,6 +32,7 @@ fn post(place: usize) -> Post {
         contracted: 120 + 30 * (place % 7),
         whole_time: 2_250 + 30 * (place % 5),
         pay: 150_000 + 1_003 * (place % 97),
+        supplement: 7_001 * (place % 4),
     }
 }
 

@@ -21,7 +21,7 @@ use std::env;
 use std::process::exit;
 
 const PRINTED_CASE: &[u8] =
-    b"0107B2040107F50401004300\n0207DF0000\n0305DC08CA0027AC40\n03038408CA00124F80\n";
+    b"0107B2040107F50401004300\n0207DF0000\n0305DC08CA0027AC4000000000\n03038408CA00124F8000000000\n";
 
 /// What comes last of a text after a failed read: a byte that is no digit and no line feed.
 const FAILED_MARK: u8 = 0;
@@ -87,7 +87,7 @@ fn hold_interrupted(program: &str) {
         b"interrupted\n",
         "",
     );
-    for cuts in [&[0][..], &[25], &[0, 25, 32, 55]] {
+    for cuts in [&[0][..], &[25], &[0, 25, 32, 63]] {
         let given = interrupted(program, &[], PRINTED_CASE, cuts);
         hold(
             &format!("interrupted after {cuts:?} bytes"),
@@ -103,7 +103,7 @@ fn hold_interrupted(program: &str) {
 fn hold_failed(program: &str) {
     let errors = "canyonsieve-case: standard input: Connection reset by peer\n";
     let longest = longest_text();
-    let cuts = [0, 24, 25, 32, 54, 55, 73, 74].map(|cut| &PRINTED_CASE[..cut]);
+    let cuts = [0, 24, 25, 32, 62, 63, 89, 90].map(|cut| &PRINTED_CASE[..cut]);
     for text in [&cuts[..], &[&longest[..longest.len() - 1], &longest]].concat() {
         let line = line_of(&[text, &[FAILED_MARK]].concat());
         assert!(line.starts_with(b"EE"));

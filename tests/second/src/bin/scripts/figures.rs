@@ -1,5 +1,5 @@
 //! The script of `figures`, a call for each line:
-//! `P` and `R LABEL|PLACES H W P H W P`, posts in bytes and as records; `B LABEL|PLACES BYTES`, bytes;
+//! `P` and `R LABEL|PLACES H W P S H W P S`, posts in bytes and as records; `B LABEL|PLACES BYTES`, bytes;
 //! `D LABEL|` birth, retirement, pension age; `C LABEL|` the ten numbers of an 04; `A LABEL|` pension,
 //! earned pension, previous pay, new pay; `E LABEL|` the ten numbers of an 04, old pay and days, new
 //! pay and days, price increase.
@@ -45,22 +45,20 @@ fn lent(count: u64) -> Option<Vec<u64>> {
     (count <= PLACES).then(|| vec![UNWRITTEN; count])
 }
 
-/// The places lent and the posts of three numbers each, at most one too many, whose numbers fit the
+/// The places lent and the posts of four numbers each, at most one too many, whose numbers fit the
 /// widths of their bytes.
 fn places_and_posts(words: &[&str]) -> Option<(Vec<u64>, Vec<Post>)> {
     let numbers = numbers(words)?;
     let (&count, rest) = numbers.split_first()?;
-    if rest.len() % 3 != 0 || rest.len() / 3 > MOST_POSTS + 1 {
+    let posts = rest.chunks(4);
+    if posts.len() > MOST_POSTS + 1 {
         return None;
     }
-    let post = |of: &[u64]| Post {
-        contracted: of[0],
-        whole_time: of[1],
-        pay: of[2],
-    };
-    let list: Vec<Post> = rest.chunks(3).map(post).collect();
+    let posts = posts.map(|of| Some(Post::of(of.try_into().ok()?)));
+    let list: Vec<Post> = posts.collect::<Option<_>>()?;
     let minutes = |post: &Post| post.contracted.max(post.whole_time);
-    let fits = |post: &Post| minutes(post) <= u16::MAX.into() && post.pay <= u32::MAX.into();
+    let amounts = |post: &Post| post.pay.max(post.supplement);
+    let fits = |post: &Post| minutes(post) <= u16::MAX.into() && amounts(post) <= u32::MAX.into();
     let places = lent(count)?;
     list.iter().all(fits).then_some((places, list))
 }

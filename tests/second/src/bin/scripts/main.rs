@@ -90,8 +90,11 @@ mod tests {
         let unknown = [
             "P x|19",
             "P x|1 1 2",
-            "P x|1 65536 1 1",
-            "R x|1 1 1 4294967296",
+            "P x|1 1 2 3",
+            "R x|1 1 2 3 0 1 2 3",
+            "P x|1 65536 1 1 0",
+            "R x|1 1 1 4294967296 0",
+            "P x|1 1 1 0 4294967296",
             "B x|1",
             "E x|0 0 0 0 0 0 0 0 0 1 0 1 0 1",
         ];
@@ -101,7 +104,7 @@ mod tests {
     /// A 54th of 27 pence goes up; a debit of a penny and a half takes more than that.
     #[test]
     fn a_closed_case_has_its_count() {
-        let frames = "0107B2040107F50401004300 0207DF0000 03000100010000001B";
+        let frames = "0107B2040107F50401004300 0207DF0000 03000100010000001B00000000";
         let worked = "worked: net 2015 1, net 1995 0, lump sum 0, charge 0 pence, 1 rounded up\n";
         let script = format!("F frames|{frames}\nC worked\nF debit|0600000000030000\n");
         let lines = format!("frames 0 0 0\n{worked}debit 11\n");
@@ -109,6 +112,19 @@ mod tests {
         let script = format!("F frames|{frames} 06000000000300C8\nC refused\n");
         let lines = "frames 0 0 0 0\nrefused: refusal 14, line 0\n";
         assert_eq!(done("running", &script), Ok(lines.to_string()));
+    }
+
+    /// 10 and 9 pence a minute: 3 minutes for 30 pence and 1 of the other post.
+    #[test]
+    fn posts_have_their_supplements() {
+        let posts = "3 4 30 0 3 4 0 36";
+        let given = "refusal 0, 39 pence; places 18 6";
+        let unwritten = " 9".repeat(16);
+        let script = format!("P x|2 {posts}\nR y|2 {posts}\n");
+        let lines = format!("x: {given}\ny: {given}{unwritten}\ny: {given}\n");
+        assert_eq!(done("figures", &script), Ok(lines));
+        let script = "B x|2 000300040000001E00000000000300040000000000000024\n";
+        assert_eq!(done("figures", script), Ok(format!("x: {given}\n")));
     }
 
     #[test]

@@ -248,6 +248,7 @@ pub(super) fn hours_past_week(random: &mut Random) -> Damaged {
         contracted: random.pick(&[whole_time + 1, past]),
         whole_time,
         pay: random.near_ends(0, LARGEST_PAY),
+        supplement: random.near_ends(0, LARGEST_PAY),
     };
     with_second_post(random, &case, &post)
 }
@@ -278,14 +279,32 @@ fn whole_time_post(random: &mut Random) -> Post {
         contracted: minutes,
         whole_time: minutes,
         pay: random.near_ends(0, LARGEST_PAY),
+        supplement: random.near_ends(0, LARGEST_PAY),
     }
 }
 
-pub(super) fn seven_before_eight(random: &mut Random) -> Damaged {
+/// A text with a second whole-time post, which is spoilt besides.
+fn spoilt_whole_time(random: &mut Random, spoil: fn(&mut Post, u64)) -> Damaged {
     let case = case_of_posts(random, 3, true);
     let mut post = whole_time_post(random);
-    post.pay = random.near_ends(PAST_PAY, FOUR);
+    spoil(&mut post, random.near_ends(PAST_PAY, FOUR));
     with_second_post(random, &case, &post)
+}
+
+pub(super) fn seven_before_eight(random: &mut Random) -> Damaged {
+    spoilt_whole_time(random, |post, past| post.pay = past)
+}
+
+pub(super) fn supplement_before_eight(random: &mut Random) -> Damaged {
+    spoilt_whole_time(random, |post, past| post.supplement = past)
+}
+
+/// The length is tried before the fields.
+pub(super) fn earlier_length_of_no_minutes(random: &mut Random) -> Damaged {
+    let case = whole_case(random);
+    let mut frame = post_frame(&Post::of(&[0, 2_250, PAST_PAY, 0]));
+    frame.truncate(9);
+    refused_frame(random, &case, 3, frame)
 }
 
 pub(super) fn seventeenth_whole_time(random: &mut Random) -> Damaged {
