@@ -6,11 +6,13 @@
 #include <inttypes.h>
 #include <stdio.h>
 
-/* Contracted and whole-time minutes of a week, and yearly pay in pence. */
+/* Contracted and whole-time minutes of a week, yearly pay and yearly supplement in pence. A supplement is an allowance
+ * paid for hours worked, such as unsocial hours; it is not in the pay. */
 struct post {
     uint16_t contracted;
     uint16_t whole_time;
     uint32_t pay;
+    uint32_t supplement;
 };
 
 static void pounds(const char *what, uint64_t pence, const char *how_often)
@@ -62,6 +64,15 @@ static void print_time(const char *what, uint64_t parts, uint64_t parts_of_minut
     printf(" min");
 }
 
+/* The bytes of a post, put at their start; gives their end. */
+static uint8_t *put_post(uint8_t *bytes, struct post post)
+{
+    bytes = put(bytes, post.contracted, 2);
+    bytes = put(bytes, post.whole_time, 2);
+    bytes = put(bytes, post.pay, 4);
+    return put(bytes, post.supplement, 4);
+}
+
 /* The posts of a year: each with its hours that count and those left out, then the pensionable pay. */
 static int print_year(const char *title, const struct post *posts, size_t count)
 {
@@ -73,7 +84,7 @@ static int print_year(const char *title, const struct post *posts, size_t count)
     if (count > CANYONSIEVE_MAX_POSTS)
         return refused(title, CANYONSIEVE_POST_COUNT, 0);
     for (size_t i = 0; i < count; i++) {
-        end = put(put(put(end, posts[i].contracted, 2), posts[i].whole_time, 2), posts[i].pay, 4);
+        end = put_post(end, posts[i]);
         together += posts[i].contracted;
     }
     struct canyonsieve_figure pay = canyonsieve_posts(bytes, (size_t)(end - bytes), parts, count);
@@ -120,13 +131,14 @@ static int print_case(const char *title, const char *text, size_t length)
 
 int main(void)
 {
-    static const struct post equal_weeks[] = {{1200, 2250, 1000000}, {1200, 2250, 1200000}};
-    static const struct post differing_weeks[] = {{1200, 2250, 5300000}, {1140, 2400, 4750000}};
+    static const struct post equal_weeks[] = {{1200, 2250, 1000000, 0}, {1200, 2250, 1200000, 0}};
+    static const struct post differing_weeks[] = {{1200, 2250, 5300000, 0}, {1140, 2400, 4750000, 0}};
+    static const struct post unsocial_hours[] = {{1500, 2250, 2600000, 200000}, {960, 2400, 3200000, 400000}};
     static const char printed[] =
         "0107B2040107F50401004300\n"
         "0207DF0000\n"
-        "0305DC08CA0027AC40\n"
-        "03038408CA00124F80\n";
+        "0305DC08CA0027AC4000000000\n"
+        "03038408CA00124F8000000000\n";
     static const char ten_pays[] =
         "0107B2040107F50401024341\n"
         "08002DC6C0002F4D600030D400003D0900003E8FA000401640003B82600039FBC0003875200036EE801C84\n";
@@ -136,6 +148,9 @@ int main(void)
 
     failed |= print_year("20 hours at 10,000 pounds and 20 hours at 12,000 pounds, both of 37.5 hours", equal_weeks, 2);
     failed |= print_year("20 hours of 37.5 at 53,000 pounds and 19 hours of 40 at 47,500 pounds", differing_weeks, 2);
+    failed |= print_year("25 hours of 37.5 at 26,000 pounds with a supplement of 2,000 pounds, "
+                         "and 16 hours of 40 at 32,000 pounds with 4,000 pounds",
+                         unsocial_hours, 2);
 
     struct canyonsieve_figure charge =
         canyonsieve_charge(3000000, 3100000, 3200000, 4000000, 65, 65, 65, 7, 7300, 2020);
