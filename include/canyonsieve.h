@@ -3,9 +3,10 @@
  * SPDX-License-Identifier: MIT
  * Copyright (c) 2026 Canyonsieve maintainers. The licence is in the file LICENSE.
  *
- * Amounts of money are in pence, contracts in minutes a week, spans in months. A pension, a pay and an abatement are
- * amounts for a YEAR: what is paid every month is a share of them, which the caller works out. A lump sum and a charge
- * are paid ONCE. Only the two pays with each employer in canyonsieve_change_of_employer are for their DAYS.
+ * Amounts of money are in pence, contracts in minutes a week, spans in months. A pension, a pay, a supplement and an
+ * abatement are amounts for a YEAR: what is paid every month is a share of them, which the caller works out. A lump sum
+ * and a charge are paid ONCE. Only the two pays with each employer in canyonsieve_change_of_employer are for their
+ * DAYS.
  *
  * Each call takes any numbers whatever: what the rules do not take is refused. Each gives a refusal, 0 for none, and
  * numbers beside it, all 0 when refused: look at the refusal first, since 0 is a legal amount. Results are returned by
@@ -28,17 +29,17 @@ extern "C" {
 
 /* The version of this interface. It is raised by one when a function is added, when a struct or a frame changes, and
  * when a kind of frame is added. Code that was written for one version asks for it:
- *     #if CANYONSIEVE_VERSION != 6
+ *     #if CANYONSIEVE_VERSION != 7
  *     #error "another version of canyonsieve.h"
  *     #endif */
-#define CANYONSIEVE_VERSION 6
+#define CANYONSIEVE_VERSION 7
 
 /* The limits. */
 #define CANYONSIEVE_MAX_POSTS 16         /* posts of a year */
 #define CANYONSIEVE_MAX_YEARS 50         /* years of a case */
 #define CANYONSIEVE_MAX_TEXT 32768       /* bytes of a text */
-#define CANYONSIEVE_MAX_PAY 1000000000   /* pence of a pay, and of a Scheme Pays pot */
-#define CANYONSIEVE_BYTES_OF_POST 8      /* bytes of a post in the posts call */
+#define CANYONSIEVE_MAX_PAY 1000000000   /* pence of a pay, of a supplement, and of a Scheme Pays pot */
+#define CANYONSIEVE_BYTES_OF_POST 12     /* bytes of a post in the posts call */
 
 /* A result that is not looked at may be a refusal that is paid. */
 #if defined(__GNUC__)
@@ -65,7 +66,7 @@ enum canyonsieve_refusal {
     /* An April year outside 2015 to 2100 or not the next, a revaluation above 2,000, or a 51st year. */
     CANYONSIEVE_YEAR = 6,
     /* A post with no contracted minutes, more of them than whole-time minutes, more than 10,080 whole-time
-     * minutes, a pay above 1,000,000,000 pence, or in a case a 17th post of a year. */
+     * minutes, a pay or a supplement above 1,000,000,000 pence, or in a case a 17th post of a year. */
     CANYONSIEVE_POST = 7,
     /* A second whole-time post. */
     CANYONSIEVE_SECOND_WHOLE_TIME = 8,
@@ -90,7 +91,7 @@ enum canyonsieve_refusal {
     CANYONSIEVE_POST_COUNT = 21,
     /* Fewer places lent for parts than there are posts. */
     CANYONSIEVE_PLACES = 22,
-    /* A length of posts in bytes that is no multiple of 8. */
+    /* A length of posts in bytes that is no multiple of 12. */
     CANYONSIEVE_POSTS_LENGTH = 23,
     /* An amount above 1,000,000,000,000 pence. */
     CANYONSIEVE_AMOUNT = 24,
@@ -127,7 +128,7 @@ CANYONSIEVE_CHECKED static inline const char *canyonsieve_refusal_words(uint64_t
     case CANYONSIEVE_YEAR:
         return "an April year out of range or not the next, a revaluation above 2,000, or a 51st year";
     case CANYONSIEVE_POST:
-        return "a post out of range, or a 17th post";
+        return "a post with minutes, pay or supplement out of range, or a 17th post";
     case CANYONSIEVE_SECOND_WHOLE_TIME:
         return "a second whole-time post";
     case CANYONSIEVE_FINAL_PAY:
@@ -148,7 +149,7 @@ CANYONSIEVE_CHECKED static inline const char *canyonsieve_refusal_words(uint64_t
     case CANYONSIEVE_PLACES:
         return "fewer places lent than posts";
     case CANYONSIEVE_POSTS_LENGTH:
-        return "a length of posts that is no multiple of 8";
+        return "a length of posts that is no multiple of 12";
     case CANYONSIEVE_AMOUNT:
         return "an amount above 1,000,000,000,000 pence";
     case CANYONSIEVE_EARNED:
@@ -199,8 +200,14 @@ struct canyonsieve_outcome {
 /* The pensionable pay of a year with several posts, in pence for that year: the aggregate of the posts, with hours past
  * the weighted week left out where the rate of pay is lowest.
  *
- * posts: length bytes, 8 for each post, big-endian: contracted minutes 2, whole-time minutes 2, yearly pay
- * in pence 4.
+ * posts: length bytes, 12 for each post, big-endian: contracted minutes 2, whole-time minutes 2, yearly pay in pence 4,
+ * yearly supplement in pence 4. A supplement is an allowance paid for hours worked, such as unsocial hours, and no part
+ * of the pay: it is part of the rate, but is not grossed up to the whole-time week. A post without one has 0. A post
+ * whose hours all count has its pay and its supplement in the aggregate, one that is cut the hours that count times its
+ * rate.
+ *
+ * Code for version 6 sent 8 bytes a post and must send 12. A length that is no multiple of 12 is refused; but three
+ * posts of 8 bytes have the length of two of 12, and are read as two.
  *
  * parts: this many places, lent by the caller. With H the contracted minutes of all posts together, a minute
  * has H parts: parts / H is whole minutes, and parts % H the part of a minute over H. Accepted, the first places get
@@ -210,7 +217,7 @@ struct canyonsieve_outcome {
  * Both stay the caller's, and nothing of them is kept. They must not overlap. A pointer may be NULL only
  * where its length or its places are 0.
  *
- * Refusals, tried in this order: 23, length is no multiple of 8; 21, more than 16 posts; 22, fewer places than
+ * Refusals, tried in this order: 23, length is no multiple of 12; 21, more than 16 posts; 22, fewer places than
  * posts; then post by post 7, a post that is out of range, and 8, a second whole-time post. No posts: 0 pence. */
 CANYONSIEVE_CHECKED struct canyonsieve_figure canyonsieve_posts(const uint8_t *posts, size_t length, uint64_t *parts,
                                                                 size_t places);
@@ -251,7 +258,7 @@ CANYONSIEVE_CHECKED struct canyonsieve_charges canyonsieve_change_of_employer(
  * has one; in the 1995 Section also the net lump sum and the employer's final pay charge. The pensions are for a year,
  * the lump sum and the charge once. No other division of the hours of the posts, no other of the last three years as
  * final pay and no other three consecutive years of the ten pays would give a larger net pension of both together, or a
- * larger net lump sum.
+ * larger net lump sum; where a post has a supplement, the hours of the other division are valued at their rates.
  *
  * rounded_up is for those who hold the amounts against a ledger: how many of the amounts on the way were rounded up, a
  * half being up. What was exact or went down is not counted. The allowed pay of each controlled year is among them,
@@ -259,8 +266,9 @@ CANYONSIEVE_CHECKED struct canyonsieve_charges canyonsieve_change_of_employer(
  *
  * text: length bytes, lines of digits 0-9 and A-F, two to a byte, each line ended by a line feed and holding one frame;
  * docs/FRAMES.md has the frames. From version 5 on a member frame has 12 bytes, the last of them the pension age of the
- * section; one of 11 bytes, as before, is refused with 3. The text stays the caller's, and nothing of it is kept. It
- * may be NULL only where length is 0.
+ * section; one of 11 bytes, as before, is refused with 3. From version 7 on a post frame has 13 bytes, the last four of
+ * them the supplement; one of 9 bytes, as before, is refused with 3. The text stays the caller's, and nothing of it is
+ * kept. It may be NULL only where length is 0.
  *
  * Refusals: 1, the text is too long (line 0); then line by line, the first line being 1, and the first line that is
  * refused ends the reading: 2, 3, 4, then 5 to 11, 27 or 28 by the frame's own fields; at the end, line 0: 4, 12, 13,

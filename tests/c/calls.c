@@ -2,7 +2,7 @@
  * figures of the paper. Prints how many checks there were; stops at the first that fails, with its line. */
 #include "canyonsieve.h"
 
-#if CANYONSIEVE_VERSION != 6
+#if CANYONSIEVE_VERSION != 7
 #error "another version of canyonsieve.h"
 #endif
 
@@ -52,22 +52,25 @@ static void both(int line, struct canyonsieve_charges got, uint64_t refusal, uin
 /* A post of the paper. */
 struct post {
     unsigned h, w;
-    uint32_t p;
+    uint32_t p, s;
 };
 
-/* Writes posts as 8 bytes each, big-endian. */
+/* Writes a number in so many bytes, big-endian. */
+static void put(uint8_t *bytes, uint32_t number, unsigned width)
+{
+    for (unsigned i = 0; i < width; i++)
+        bytes[i] = (uint8_t)(number >> (8 * (width - 1 - i)));
+}
+
+/* Writes posts as 12 bytes each. */
 static void encode(const struct post *list, size_t count, uint8_t *bytes)
 {
     for (size_t i = 0; i < count; i++) {
-        uint8_t *b = bytes + 8 * i;
-        b[0] = (uint8_t)(list[i].h >> 8);
-        b[1] = (uint8_t)list[i].h;
-        b[2] = (uint8_t)(list[i].w >> 8);
-        b[3] = (uint8_t)list[i].w;
-        b[4] = (uint8_t)(list[i].p >> 24);
-        b[5] = (uint8_t)(list[i].p >> 16);
-        b[6] = (uint8_t)(list[i].p >> 8);
-        b[7] = (uint8_t)list[i].p;
+        uint8_t *b = bytes + 12 * i;
+        put(b, list[i].h, 2);
+        put(b + 2, list[i].w, 2);
+        put(b + 4, list[i].p, 4);
+        put(b + 8, list[i].s, 4);
     }
 }
 
@@ -77,7 +80,7 @@ static void posts_bytes(int line, const uint8_t *bytes, size_t length, size_t pl
                         uint64_t number, const uint64_t *expected, size_t count)
 {
     uint64_t lent[MOST_PLACES + 2];
-    uint8_t before[8 * MOST_PLACES];
+    uint8_t before[12 * MOST_PLACES];
 
     lent[0] = GUARD;
     for (size_t i = 0; i < places; i++)
@@ -97,10 +100,10 @@ static void posts_bytes(int line, const uint8_t *bytes, size_t length, size_t pl
 static void posts(int line, const struct post *list, size_t count, size_t places, uint64_t refusal,
                   uint64_t number, const uint64_t *expected)
 {
-    uint8_t bytes[8 * MOST_PLACES];
+    uint8_t bytes[12 * MOST_PLACES];
 
     encode(list, count, bytes);
-    posts_bytes(line, bytes, 8 * count, places, refusal, number, expected, expected == NULL ? 0 : count);
+    posts_bytes(line, bytes, 12 * count, places, refusal, number, expected, expected == NULL ? 0 : count);
 }
 
 #define COUNT(list) (sizeof(list) / sizeof((list)[0]))
@@ -110,14 +113,14 @@ static void posts(int line, const struct post *list, size_t count, size_t places
 
 static void posts_accepted(void)
 {
-    static const struct post two[] = {{1200, 2250, 1000000}, {1200, 2250, 1200000}};
-    static const struct post uneven[] = {{1500, 2250, 2600000}, {900, 2250, 1200000}};
-    static const struct post weeks[] = {{1200, 2250, 5300000}, {1140, 2400, 4750000}};
-    static const struct post equal[] = {{1200, 2250, 1000000}, {1200, 2250, 1000000}};
-    static const struct post whole[] = {{2250, 2250, 2000000}, {300, 2250, 900000}};
-    static const struct post past[] = {{1000, 1200, 900000}, {3000, 3000, 700000}};
-    static const struct post once[] = {{5, 6, 8}, {2, 3, 4}, {1, 2, 1}};
-    static const struct post one[] = {{600, 600, 5000}};
+    static const struct post two[] = {{1200, 2250, 1000000, 0}, {1200, 2250, 1200000, 0}};
+    static const struct post uneven[] = {{1500, 2250, 2600000, 0}, {900, 2250, 1200000, 0}};
+    static const struct post weeks[] = {{1200, 2250, 5300000, 0}, {1140, 2400, 4750000, 0}};
+    static const struct post equal[] = {{1200, 2250, 1000000, 0}, {1200, 2250, 1000000, 0}};
+    static const struct post whole[] = {{2250, 2250, 2000000, 0}, {300, 2250, 900000, 0}};
+    static const struct post past[] = {{1000, 1200, 900000, 0}, {3000, 3000, 700000, 0}};
+    static const struct post once[] = {{5, 6, 8, 0}, {2, 3, 4, 0}, {1, 2, 1, 0}};
+    static const struct post one[] = {{600, 600, 5000, 0}};
 
     /* Starred figures. */
     posts_bytes(__LINE__, NULL, 0, 0, 0, 0, NULL, 0);
@@ -137,15 +140,15 @@ static void posts_accepted(void)
 
 static void posts_refused(void)
 {
-    static const struct post above[] = {{601, 600, 5000}};
-    static const struct post none[] = {{0, 600, 5000}};
-    static const struct post week[] = {{600, 10081, 5000}};
-    static const struct post pay[] = {{600, 2250, 1000000001}};
-    static const struct post whole[] = {{600, 600, 5000}, {700, 700, 9000}};
-    static const struct post eighth[] = {{600, 600, 5000}, {700, 700, 9000}, {0, 1, 1}};
-    static const struct post seventh[] = {{0, 1, 1}, {600, 600, 5000}, {700, 700, 9000}};
-    static const struct post late[] = {{600, 2250, 5000}, {601, 600, 5000}};
-    static const uint8_t zeros[8 * MOST_PLACES];
+    static const struct post above[] = {{601, 600, 5000, 0}};
+    static const struct post none[] = {{0, 600, 5000, 0}};
+    static const struct post week[] = {{600, 10081, 5000, 0}};
+    static const struct post pay[] = {{600, 2250, 1000000001, 0}};
+    static const struct post whole[] = {{600, 600, 5000, 0}, {700, 700, 9000, 0}};
+    static const struct post eighth[] = {{600, 600, 5000, 0}, {700, 700, 9000, 0}, {0, 1, 1, 0}};
+    static const struct post seventh[] = {{0, 1, 1, 0}, {600, 600, 5000, 0}, {700, 700, 9000, 0}};
+    static const struct post late[] = {{600, 2250, 5000, 0}, {601, 600, 5000, 0}};
+    static const uint8_t zeros[12 * MOST_PLACES];
 
     REFUSED(above, 1, CANYONSIEVE_POST);
     REFUSED(none, 1, CANYONSIEVE_POST);
@@ -156,13 +159,15 @@ static void posts_refused(void)
     REFUSED(seventh, 3, CANYONSIEVE_POST);
     REFUSED(late, 2, CANYONSIEVE_POST);
     REFUSED(whole, 1, CANYONSIEVE_PLACES);
-    posts_bytes(__LINE__, zeros, 7, 1, CANYONSIEVE_POSTS_LENGTH, 0, NULL, 0);
-    posts_bytes(__LINE__, zeros, 137, 17, CANYONSIEVE_POSTS_LENGTH, 0, NULL, 0);
-    posts_bytes(__LINE__, zeros, 136, 17, CANYONSIEVE_POST_COUNT, 0, NULL, 0);
-    posts_bytes(__LINE__, zeros, 136, 0, CANYONSIEVE_POST_COUNT, 0, NULL, 0);
-    posts_bytes(__LINE__, zeros, 128, 15, CANYONSIEVE_PLACES, 0, NULL, 0);
-    posts_bytes(__LINE__, zeros, 128, 16, CANYONSIEVE_POST, 0, NULL, 0);
-    figure(__LINE__, canyonsieve_posts(zeros, 8, NULL, 0), CANYONSIEVE_PLACES, 0);
+    posts_bytes(__LINE__, zeros, 11, 1, CANYONSIEVE_POSTS_LENGTH, 0, NULL, 0);
+    posts_bytes(__LINE__, zeros, 13, 2, CANYONSIEVE_POSTS_LENGTH, 0, NULL, 0);
+    posts_bytes(__LINE__, zeros, 205, 17, CANYONSIEVE_POSTS_LENGTH, 0, NULL, 0);
+    posts_bytes(__LINE__, zeros, 204, 17, CANYONSIEVE_POST_COUNT, 0, NULL, 0);
+    posts_bytes(__LINE__, zeros, 204, 0, CANYONSIEVE_POST_COUNT, 0, NULL, 0);
+    posts_bytes(__LINE__, zeros, 192, 15, CANYONSIEVE_PLACES, 0, NULL, 0);
+    posts_bytes(__LINE__, zeros, 192, 16, CANYONSIEVE_POST, 0, NULL, 0);
+    posts_bytes(__LINE__, zeros, 12, 1, CANYONSIEVE_POST, 0, NULL, 0);
+    figure(__LINE__, canyonsieve_posts(zeros, 12, NULL, 0), CANYONSIEVE_PLACES, 0);
     figure(__LINE__, canyonsieve_posts(zeros, 1, NULL, 0), CANYONSIEVE_POSTS_LENGTH, 0);
     figure(__LINE__, canyonsieve_posts(NULL, 0, NULL, 0), CANYONSIEVE_ACCEPTED, 0);
 }
@@ -173,10 +178,117 @@ static void sixteen_posts(void)
     uint64_t expected[16] = {5760000, 5760000, 5760000, 4320000};
 
     for (size_t i = 0; i < COUNT(list); i++)
-        list[i] = (struct post){600, 2250, 1000000};
+        list[i] = (struct post){600, 2250, 1000000, 0};
     posts(__LINE__, list, 16, 16, 0, 3750000, expected);
     posts(__LINE__, list, 16, 18, 0, 3750000, expected);
     posts(__LINE__, list, 17, 18, CANYONSIEVE_POST_COUNT, 0, NULL);
+}
+
+/* Posts of document 001's scenario E: the second in full, the first cut. */
+static const struct post scenario_e[] = {{1500, 2250, 2600000, 200000}, {960, 2400, 3200000, 400000}};
+
+/* Equal rates of 1,000 pence a minute, by 900 and 100, and by 800 and 200. */
+static const struct post equal_rates[] = {{1200, 2250, 1080000, 225000}, {1500, 2400, 1200000, 480000}};
+static const struct post equal_rates_turned[] = {{1500, 2400, 1200000, 480000}, {1200, 2250, 1080000, 225000}};
+
+static const struct post whole_with_supplement[] = {{2250, 2250, 2000000, 50000}, {300, 2250, 900000, 700000}};
+
+/* The figures of request 2.7. In full a post counts p + s, cut its minutes times its rate of (p * w/h + s)/w. */
+static void supplements(void)
+{
+    static const struct post alone[] = {{3, 4, 30, 0}, {3, 4, 0, 36}};
+    static const struct post last[] = {{6, 10, 60, 0}, {6, 10, 54, 10}};
+    static const struct post higher[] = {{6, 10, 60, 0}, {6, 10, 54, 11}};
+    static const struct post first[] = {{6, 10, 54, 10}, {6, 10, 60, 0}};
+    static const struct post sevenths[] = {{7, 10, 10, 0}, {7, 10, 9, 2}};
+    static const struct post third[] = {{3, 4, 1, 0}, {3, 4, 1, 1}};
+    static const struct post whole_last[] = {{300, 2250, 900000, 700000}, {2250, 2250, 2000000, 50000}};
+    static const struct post no_pay[] = {{1, 1, 0, 1000000000}};
+    static const struct post none_in_full[] = {{10, 11, 1000, 220}, {5, 6, 100, 60}};
+    /* By pay alone the second of these would go first. */
+    static const struct post by_supplement[] = {{1200, 2250, 1000000, 300000}, {1200, 2250, 1100000, 0}};
+    /* With the supplement grossed up the first of these would. */
+    static const struct post not_grossed_up[] = {{1200, 2250, 1000000, 300000}, {1200, 2250, 1200000, 0}};
+
+    ACCEPTED(alone, 2, 39, 18, 6);
+    ACCEPTED(last, 2, 100, 72, 48);
+    ACCEPTED(higher, 2, 105, 48, 72);
+    ACCEPTED(first, 2, 104, 72, 48);
+    ACCEPTED(scenario_e, 2, 6057333, 3317400, 2361600);
+    ACCEPTED(scenario_e, 4, 6057333, 3317400, 2361600);
+    ACCEPTED(sevenths, 2, 15, 42, 98);
+    ACCEPTED(third, 2, 2, 6, 18);
+    ACCEPTED(whole_with_supplement, 2, 2050000, 5737500, 0);
+    ACCEPTED(whole_last, 3, 2050000, 0, 5737500);
+    ACCEPTED(no_pay, 1, 1000000000, 1);
+    ACCEPTED(none_in_full, 2, 1120, 140, 0);
+    ACCEPTED(equal_rates, 2, 2438333, 3240000, 3060000);
+    ACCEPTED(equal_rates_turned, 2, 2513333, 4050000, 2250000);
+    ACCEPTED(by_supplement, 2, 2262500, 2880000, 2520000);
+    ACCEPTED(not_grossed_up, 2, 2215000, 2520000, 2880000);
+}
+
+/* Rates whose products pass 64 bits, and the most that sixteen posts come to. */
+static void large_supplements(void)
+{
+    static const struct post pay[] = {{10079, 10080, 1000000000, 1000000000}, {10079, 10080, 999999999, 1000000000}};
+    /* Products of 71 bits, the first higher by 1; with a penny more the second is higher. */
+    static const struct post by_one[] = {{10079, 10080, 999998148, 915106033}, {10067, 10069, 999991861, 912922865}};
+    static const struct post turned[] = {{10067, 10069, 999991861, 912922865}, {10079, 10080, 999998148, 915106033}};
+    static const struct post penny[] = {{10079, 10080, 999998148, 915106033}, {10067, 10069, 999991861, 912922866}};
+    /* Higher by 1 again, from 0xFFFFFFFF to 0 in the lower 32 bits. */
+    static const struct post carried[] = {{9001, 9007, 775639930, 766936842}, {5003, 8192, 673256411, 301064827}};
+    static const struct post carried_last[] = {{5003, 8192, 673256411, 301064827}, {9001, 9007, 775639930, 766936842}};
+    /* The product of the first is below 2^64, that of the second above it. */
+    static const struct post past_64[] = {{2000, 2400, 750800000, 947500000}, {2200, 2250, 743300000, 988700000}};
+    struct post list[CANYONSIEVE_MAX_POSTS];
+    uint64_t expected[CANYONSIEVE_MAX_POSTS] = {1625379856, 161264};
+
+    ACCEPTED(pay, 2, 2000198423, 203172482, 20158);
+    ACCEPTED(by_one, 2, 1914159018, 202960943, 0);
+    ACCEPTED(turned, 2, 1914159018, 0, 202960943);
+    ACCEPTED(penny, 2, 1914340352, 151161, 202809782);
+    ACCEPTED(carried, 2, 1493211312, 122056583, 0);
+    ACCEPTED(carried_last, 2, 1493211312, 0, 122056583);
+    ACCEPTED(past_64, 2, 1825523274, 510000, 9240000);
+    for (size_t i = 0; i < COUNT(list); i++)
+        list[i] = (struct post){10079, 10080, CANYONSIEVE_MAX_PAY, CANYONSIEVE_MAX_PAY};
+    posts(__LINE__, list, COUNT(list), COUNT(list), 0, 2000198423, expected);
+    /* 16 x 630 are 10,080: all in full. */
+    for (size_t i = 0; i < COUNT(list); i++) {
+        list[i].h = 630;
+        expected[i] = 630 * 10080;
+    }
+    posts(__LINE__, list, COUNT(list), COUNT(list), 0, UINT64_C(32000000000), expected);
+}
+
+/* 7 by a supplement, after 22 and before 8; lengths of posts without one; the bytes of two posts as they stand. */
+static void supplements_refused(void)
+{
+    static const struct post past[] = {{600, 2250, 5000, 1000000001}};
+    static const struct post most[] = {{600, 2250, 5000, UINT32_MAX}};
+    static const struct post pay[] = {{600, 2250, 1000000001, 1000000001}};
+    static const struct post second[] = {{600, 2250, 5000, 1000000000}, {600, 2250, 5000, 1000000001}};
+    static const struct post whole[] = {{600, 600, 5000, 0}, {700, 700, 9000, 1000000001}};
+    static const struct post whole_stands[] = {{600, 600, 5000, 0}, {700, 700, 9000, 1000000000}};
+    static const uint8_t earlier[] = {0x05, 0xDC, 0x08, 0xCA, 0x00, 0x27, 0xAC, 0x40, 0x03, 0x84, 0x08, 0xCA,
+                                      0x00, 0x12, 0x4F, 0x80, 0x05, 0xDC, 0x08, 0xCA, 0x00, 0x27, 0xAC, 0x40};
+    static const uint8_t two[] = {0x05, 0xDC, 0x08, 0xCA, 0x00, 0x27, 0xAC, 0x40, 0x00, 0x00, 0x01, 0x02,
+                                  0x03, 0x84, 0x08, 0xCA, 0x00, 0x12, 0x4F, 0x80, 0x00, 0x00, 0x00, 0x00};
+    static const uint64_t parts[] = {3600000, 1800000};
+
+    REFUSED(past, 1, CANYONSIEVE_POST);
+    REFUSED(most, 1, CANYONSIEVE_POST);
+    REFUSED(pay, 1, CANYONSIEVE_POST);
+    REFUSED(second, 2, CANYONSIEVE_POST);
+    REFUSED(second, 1, CANYONSIEVE_PLACES);
+    REFUSED(whole, 2, CANYONSIEVE_POST);
+    REFUSED(whole_stands, 2, CANYONSIEVE_SECOND_WHOLE_TIME);
+    posts_bytes(__LINE__, earlier, 8, 1, CANYONSIEVE_POSTS_LENGTH, 0, NULL, 0);
+    posts_bytes(__LINE__, earlier, 16, 2, CANYONSIEVE_POSTS_LENGTH, 0, NULL, 0);
+    /* Three posts of 8 bytes are read as two of 12: the second has 18 minutes of 20,352. */
+    posts_bytes(__LINE__, earlier, 24, 3, CANYONSIEVE_POST, 0, NULL, 0);
+    posts_bytes(__LINE__, two, 24, 2, 0, 3600258, parts, 2);
 }
 
 /* Every number of a charge one after the other, replaced in numbers that stand. */
@@ -389,7 +501,7 @@ static void refused(int line, const char *text, uint64_t refusal, uint64_t at)
 #define MEMBER "0107B2040107F50401004300\n"
 #define MONTH_EARLY "0107B2040107F50301004300\n"
 #define YEAR "0207DF0000\n"
-#define POSTS "0305DC08CA0027AC40\n03038408CA00124F80\n"
+#define POSTS "0305DC08CA0027AC4000000000\n03038408CA00124F8000000000\n"
 
 /* Members of the 1995 Section, born 1 April 1970: out at 67, and at 55, which is 144 months early in the 2015 Scheme,
  * 60 in the section, and 120 to the other section's age. The final pay is that of the starred charge. */
@@ -403,7 +515,7 @@ static void refused(int line, const char *text, uint64_t refusal, uint64_t at)
  * pension of 500.00, and factors of 0.990 and 0.980. */
 #define LAST_OF_JUNE "0107B2081F07EE061E003C00\n"
 #define DAY_BEFORE_IT "0107B2081F07EE061D003C00\n"
-#define POST_OF_500 "03070808CA002932E0\n"
+#define POST_OF_500 "03070808CA002932E000000000\n"
 #define TWO_MONTHS "0500000203DE0000\n"
 #define THREE_MONTHS "0500000303D40000\n"
 
@@ -425,7 +537,7 @@ static void cases(void)
 
     outcome(__LINE__, NULL, 0, no_record);
     refused(__LINE__, "\n", CANYONSIEVE_LINE, 1);
-    refused(__LINE__, MEMBER YEAR "0305DC08CA0027AC4g\n", CANYONSIEVE_LINE, 3);
+    refused(__LINE__, MEMBER YEAR "0305DC08CA0027AC400000000g\n", CANYONSIEVE_LINE, 3);
     refused(__LINE__, MEMBER "0207df0000\n", CANYONSIEVE_LINE, 2);
     refused(__LINE__, MEMBER "0207DF0000", CANYONSIEVE_LINE, 2);
     refused(__LINE__, MEMBER "07\n", CANYONSIEVE_FRAME, 2);
@@ -433,7 +545,7 @@ static void cases(void)
     refused(__LINE__, MEMBER MEMBER, CANYONSIEVE_ORDER, 2);
     refused(__LINE__, "0107B2041F07F50401004300\n", CANYONSIEVE_DATES, 1);
     refused(__LINE__, MEMBER "0207DE0000\n", CANYONSIEVE_YEAR, 2);
-    refused(__LINE__, MEMBER YEAR "0308CB08CA0027AC40\n", CANYONSIEVE_POST, 3);
+    refused(__LINE__, MEMBER YEAR "0308CB08CA0027AC4000000000\n", CANYONSIEVE_POST, 3);
     refused(__LINE__, MEMBER_1995, CANYONSIEVE_NO_FINAL_PAY, 0);
     refused(__LINE__, MONTH_EARLY, CANYONSIEVE_NO_FACTOR, 0);
     refused(__LINE__, MEMBER YEAR POSTS "06000001046C0064\n", CANYONSIEVE_DEBIT_ABOVE, 0);
@@ -604,7 +716,7 @@ static void pay_of(int line, const char *member, unsigned pay, const char *more,
 {
     char text[128];
 
-    sprintf(text, "%s" YEAR "0300010001%08X\n%s", member, pay, more);
+    sprintf(text, "%s" YEAR "0300010001%08X00000000\n%s", member, pay, more);
     worked(line, text, net_2015, 0, 0, 0, rounded_up);
 }
 
@@ -631,9 +743,81 @@ static void ways_2015(void)
     pay_of(__LINE__, MEMBER, 5400, "06000000000100C9\n", 100, 0);
     pay_of(__LINE__, MEMBER, 5400, "0600000000010064\n", 99, 0);
     /* Aggregates of 8.4, a half more than 1, and 3,618,418.60, whose 54th of 67,007.76 goes up as well. */
-    worked(__LINE__, MEMBER YEAR "030005000600000008\n030002000300000004\n030001000200000001\n", 0, 0, 0, 0, 0);
-    worked(__LINE__, MEMBER YEAR "030002000300000001\n030002000300000001\n", 0, 0, 0, 0, 1);
-    worked(__LINE__, MEMBER YEAR "0303C008CA0015F900\n0301E008CA000D2F00\n0304740960001A17B0\n", 67008, 0, 0, 0, 2);
+    worked(__LINE__,
+           MEMBER YEAR "03000500060000000800000000\n03000200030000000400000000\n03000100020000000100000000\n", 0, 0, 0,
+           0, 0);
+    worked(__LINE__, MEMBER YEAR "03000200030000000100000000\n03000200030000000100000000\n", 0, 0, 0, 0, 1);
+    worked(__LINE__,
+           MEMBER YEAR "0303C008CA0015F90000000000\n0301E008CA000D2F0000000000\n0304740960001A17B000000000\n", 67008, 0,
+           0, 0, 2);
+}
+
+/* A year of posts of the paper, and further lines. */
+static void year_of(int line, const char *member, const struct post *list, size_t count, const char *more,
+                    const uint64_t expected[FIELDS])
+{
+    char text[1024];
+    size_t length = (size_t)sprintf(text, "%s" YEAR, member);
+
+    for (size_t i = 0; i < count; i++)
+        length += (size_t)sprintf(text + length, "03%04X%04X%08" PRIX32 "%08" PRIX32 "\n", list[i].h, list[i].w,
+                                  list[i].p, list[i].s);
+    length += (size_t)sprintf(text + length, "%s", more);
+    outcome(line, text, length, expected);
+}
+
+/* The same without a section and without more. */
+#define PENSION(list, net_2015, rounded_up) \
+    year_of(__LINE__, MEMBER, list, COUNT(list), "", (const uint64_t[FIELDS]){0, 0, net_2015, 0, 0, 0, rounded_up})
+
+/* Cases with supplements: the figures of the posts call, a 54th of them, and which way the aggregate went. */
+static void cases_with_supplements(void)
+{
+    /* Of the second 7/8 of the pay and 7/15 of the supplement count. */
+    static const struct post down[] = {{1200, 2250, 1200000, 0}, {1200, 2250, 1000000, 1}};
+    static const struct post up[] = {{1200, 2250, 1200000, 0}, {1200, 2250, 1000000, 2}};
+    static const struct post exact[] = {{1200, 2250, 1200000, 0}, {1200, 2250, 1000000, 15}};
+    static const struct post half[] = {{1200, 2250, 1200000, 0}, {1200, 2250, 1000004, 15}};
+    static const struct post past[] = {{1500, 2250, 2600000, 1000000001}};
+    static const struct post whole[] = {{2250, 2250, 2000000, 0}, {2250, 2250, 2000000, 1000000001}};
+    static const uint64_t refused_first[FIELDS] = {CANYONSIEVE_POST, 3};
+    static const uint64_t refused_second[FIELDS] = {CANYONSIEVE_POST, 4};
+    static const uint64_t of_1995[FIELDS] = {0, 0, 112173, 1000000, 3000000, 3433600, 1};
+    static const uint64_t of_2008[FIELDS] = {0, 0, 112173, 1366667, 0, 0, 2};
+
+    /* 60,573.3333 goes down, a 54th of it, 1,121.7284, up. */
+    PENSION(scenario_e, 112173, 1);
+    PENSION(equal_rates, 45154, 0);
+    PENSION(equal_rates_turned, 46543, 0);
+    PENSION(whole_with_supplement, 37963, 1);
+    /* 2,075,000.47, .93, 2,075,007 and 2,075,010.5. A 54th of the first two goes up as well. */
+    PENSION(down, 38426, 1);
+    PENSION(up, 38426, 2);
+    PENSION(exact, 38426, 0);
+    PENSION(half, 38426, 1);
+    year_of(__LINE__, MEMBER_1995, scenario_e, 2, FINAL_PAY, of_1995);
+    year_of(__LINE__, MEMBER_2008, scenario_e, 2, TEN_PAYS, of_2008);
+    year_of(__LINE__, MEMBER, past, 1, "", refused_first);
+    year_of(__LINE__, MEMBER, whole, 2, "", refused_second);
+    /* Posts of 9 bytes, as before, of 12 and of 14. */
+    refused(__LINE__, MEMBER YEAR "0305DC08CA0027AC40\n03038408CA00124F80\n", CANYONSIEVE_FRAME, 3);
+    refused(__LINE__, MEMBER YEAR "0305DC08CA0027AC40000000\n", CANYONSIEVE_FRAME, 3);
+    refused(__LINE__, MEMBER YEAR "0305DC08CA0027AC400000000000\n", CANYONSIEVE_FRAME, 3);
+}
+
+/* 50 years of the highest aggregate, 32,000,000,000, each with the highest revaluation. */
+static void largest_pension(void)
+{
+    static const uint64_t expected[FIELDS] = {0, 0, UINT64_C(26961298242272), 0, 0, 0, 69};
+    static char text[CANYONSIEVE_MAX_TEXT];
+    size_t length = (size_t)sprintf(text, MEMBER);
+
+    for (unsigned i = 0; i < CANYONSIEVE_MAX_YEARS; i++) {
+        length += (size_t)sprintf(text + length, "02%04X07D0\n", 2015 + i);
+        for (unsigned j = 0; j < CANYONSIEVE_MAX_POSTS; j++)
+            length += (size_t)sprintf(text + length, "03027627603B9ACA003B9ACA00\n");
+    }
+    outcome(__LINE__, text, length, expected);
 }
 
 /* A member of the 1995 Section on time, with allowances of a half. */
@@ -710,7 +894,7 @@ static void fifty_years(int line, const char *member, const char *rest, const ui
     for (unsigned i = 0; i < CANYONSIEVE_MAX_YEARS; i++) {
         unsigned pay = i == 0 ? 179983 : 19;
         length += (size_t)sprintf(text + length, "02%04X0001\n", 2015 + i);
-        length += (size_t)sprintf(text + length, "0300020003%08X\n0300020003%08X\n", pay, pay);
+        length += (size_t)sprintf(text + length, "0300020003%08X00000000\n0300020003%08X00000000\n", pay, pay);
     }
     length += (size_t)sprintf(text + length, "%s", rest);
     outcome(line, text, length, expected);
@@ -742,6 +926,8 @@ static void words(void)
     static const uint64_t others[] = {15, 20, 29, 255, (UINT64_C(1) << 32) + 7, UINT64_MAX};
     const char *none = canyonsieve_refusal_words(UINT64_C(1) << 40);
 
+    same(__LINE__, "7 names the supplement", strstr(canyonsieve_refusal_words(7), "supplement") != NULL, 1);
+    same(__LINE__, "23 names 12 bytes", strstr(canyonsieve_refusal_words(23), "multiple of 12") != NULL, 1);
     same(__LINE__, "refusal of ten pays", CANYONSIEVE_TEN_PAYS, 27);
     same(__LINE__, "refusal of a section's pension age", CANYONSIEVE_SECTION_AGE, 28);
     for (uint64_t n = 0; n <= CANYONSIEVE_SECTION_AGE; n++) {
@@ -765,13 +951,15 @@ static void years(int line, unsigned count, uint64_t pay, uint64_t refusal, uint
 
     for (unsigned i = 0; i < count; i++)
         length += (size_t)sprintf(text + length, "02%04X0000\n", 2015 + i);
-    length += (size_t)sprintf(text + length, "03000A0014%08" PRIX64 "\n", pay);
+    length += (size_t)sprintf(text + length, "03000A0014%08" PRIX64 "00000000\n", pay);
     outcome(line, text, length, expected);
 }
 
 /* Each limit of the header passes, and the number past it is refused. */
 static void limits(void)
 {
+    static const struct post most[] = {{10, 20, CANYONSIEVE_MAX_PAY, CANYONSIEVE_MAX_PAY}};
+    static const struct post past[] = {{10, 20, CANYONSIEVE_MAX_PAY, CANYONSIEVE_MAX_PAY + UINT32_C(1)}};
     static const uint8_t zeros[CANYONSIEVE_BYTES_OF_POST * (CANYONSIEVE_MAX_POSTS + 1)];
     static uint8_t text[CANYONSIEVE_MAX_TEXT + 1];
     uint64_t parts[CANYONSIEVE_MAX_POSTS + 1];
@@ -780,6 +968,9 @@ static void limits(void)
     years(__LINE__, CANYONSIEVE_MAX_YEARS + 1, 54, CANYONSIEVE_YEAR, 1 + CANYONSIEVE_MAX_YEARS + 1, 0, 0);
     years(__LINE__, 1, CANYONSIEVE_MAX_PAY, 0, 0, 18518519, 1);
     years(__LINE__, 1, CANYONSIEVE_MAX_PAY + UINT64_C(1), CANYONSIEVE_POST, 3, 0, 0);
+    same(__LINE__, "bytes of a post", CANYONSIEVE_BYTES_OF_POST, 12);
+    ACCEPTED(most, 1, 2000000000, 100);
+    REFUSED(past, 1, CANYONSIEVE_POST);
     /* Posts of noughts are refused one by one where their number passes, bytes of noughts as a line. */
     figure(__LINE__, canyonsieve_posts(zeros, sizeof zeros - CANYONSIEVE_BYTES_OF_POST, parts, COUNT(parts)),
            CANYONSIEVE_POST, 0);
@@ -793,6 +984,9 @@ int main(void)
     posts_accepted();
     posts_refused();
     sixteen_posts();
+    supplements();
+    large_supplements();
+    supplements_refused();
     charges();
     changes_of_employer();
     changes_refused();
@@ -807,6 +1001,8 @@ int main(void)
     section_ages();
     layout();
     ways_2015();
+    cases_with_supplements();
+    largest_pension();
     ways_of_final_pay();
     ways_of_sections();
     most_rounded_up();

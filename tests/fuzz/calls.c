@@ -10,6 +10,11 @@
 /* MOST_UP: a case has no more amounts to round than this. */
 enum { ROOM = 65536, PLACES = 20, MOST_UP = 161 };
 
+/* In pence: no year comes to more than 16 posts of the highest pay and supplement, and no pension of the 2015 Scheme to
+ * more than 50 such years with the highest revaluation. */
+#define MOST_PAY UINT64_C(32000000000)
+#define MOST_PENSION UINT64_C(26961298242272)
+
 /* Room between two pages that cannot be touched. */
 static uint8_t *guarded(void)
 {
@@ -38,7 +43,7 @@ static void text(const uint8_t *bytes, size_t length)
     claim(memcmp(&o, &again, sizeof o) == 0);
     claim(o.refusal <= 14 || o.refusal == 27 || o.refusal == 28);
     if (o.refusal == 0)
-        claim(o.line == 0 && o.rounded_up <= MOST_UP);
+        claim(o.line == 0 && o.rounded_up <= MOST_UP && o.net_2015 <= MOST_PENSION);
     else
         claim(o.net_2015 == 0 && o.net_1995 == 0 && o.net_lump_sum == 0 && o.charge == 0 && o.rounded_up == 0);
     if (o.refusal == 1 || (o.refusal >= 12 && o.refusal <= 14))
@@ -53,7 +58,9 @@ static void posts(const uint8_t *bytes, size_t length, uint64_t *places, size_t 
         places[i] = 7 * i + 1;
     struct canyonsieve_figure f = canyonsieve_posts(bytes, length, places, many);
     figure(f);
-    for (size_t i = f.refusal == 0 ? length / 8 : 0; i < many; i++)
+    claim(f.number <= MOST_PAY);
+    claim(length % CANYONSIEVE_BYTES_OF_POST == 0 || f.refusal == CANYONSIEVE_POSTS_LENGTH);
+    for (size_t i = f.refusal == 0 ? length / CANYONSIEVE_BYTES_OF_POST : 0; i < many; i++)
         claim(places[i] == 7 * i + 1);
 }
 
