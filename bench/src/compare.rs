@@ -1,9 +1,10 @@
 //! The twin held against the library: the refusal, the line, the amounts and the count of upward
 //! roundings of every text, and every place of the posts call.
 
-use crate::texts::section_2008;
+use crate::texts::{section_2008, supplements};
 use crate::twin;
 use second::engine;
+use second::posts::POST_BYTES;
 use second::random::Random;
 use second::samples::calls::{any_posts_call, posts_call, POSTS_CAUSES};
 use second::samples::damaged::mixed::{mixed_frames, one_byte_changed, random_damage};
@@ -23,6 +24,7 @@ const MIXED: u64 = 10_000;
 const FOR_EACH_CAUSE: u64 = 50;
 const POSTS_CALLS: u64 = 10_000;
 const SECTION_2008: u64 = 10_000;
+const FOR_EACH_CLASS: u64 = 4_000;
 
 /// Prints an input on which the two differ, and ends.
 fn fail(call: &str, input: &[u8], library: impl Debug, twin: impl Debug) -> ! {
@@ -85,14 +87,45 @@ pub fn compare_size(texts: &[Vec<u8>]) {
     }
 }
 
+/// Compares a list of posts, with as many places, and gives its refusal.
+fn compare_list(list: &[u8]) -> u64 {
+    compare_posts(list, list.len() / POST_BYTES)
+}
+
 /// Compares lists of posts, none of which may be refused.
 pub fn compare_lists(lists: &[Vec<u8>]) {
     for list in lists {
-        if compare_posts(list, list.len() / 8) != 0 {
+        if compare_list(list) != 0 {
             let input = writing::digits(list);
             fail("a list to be timed", &input, "refused", "refused");
         }
     }
+}
+
+/// The refusal given of an input in digits, which has to be the one wanted.
+fn as_wanted(words: &str, input: &[u8], given: u64, wanted: u64) -> u64 {
+    if given != wanted {
+        fail(words, input, given, wanted);
+    }
+    given
+}
+
+/// Compares texts, each with the refusal wanted of it.
+fn compare_refused(words: &str, texts: impl Iterator<Item = (u64, Vec<u8>)>) {
+    let refusals = texts.map(|(wanted, text)| {
+        let given = compare_case(&text);
+        as_wanted(words, &text, given, wanted)
+    });
+    print_counts(words, refusals);
+}
+
+/// Compares lists of posts, each with the refusal wanted of it.
+fn compare_refused_lists(words: &str, lists: impl Iterator<Item = (u64, Vec<u8>)>) {
+    let refusals = lists.map(|(wanted, list)| {
+        let given = compare_list(&list);
+        as_wanted(words, &writing::digits(&list), given, wanted)
+    });
+    print_counts(words, refusals);
 }
 
 /// Compares every example, and each with its line.
@@ -157,14 +190,25 @@ fn compare_section_2008(random: &mut Random) {
     let drawn = (0..SECTION_2008).map(|_| section_2008::drawn(random));
     compare_cases("texts of the 2008 Section", drawn);
     let refused = (0..FOR_EACH_CAUSE).flat_map(|_| section_2008::refused(random));
-    let refusals = refused.map(|(refusal, text)| {
-        let given = compare_case(&text);
-        if given != refusal {
-            fail("a text of the 2008 Section", &text, given, refusal);
-        }
-        given
-    });
-    print_counts("texts of the 2008 Section refused by each cause", refusals);
+    let words = "texts of the 2008 Section refused by each cause";
+    compare_refused(words, refused);
+}
+
+/// Lists of posts and texts of each class of supplements, and those of each cause refused by its
+/// number.
+fn compare_supplements(random: &mut Random) {
+    for class in &supplements::CLASSES {
+        let lists = (0..FOR_EACH_CLASS).map(|_| compare_list(&class.list(random)));
+        print_counts(&format!("lists of posts {}", class.words), lists);
+        let texts = (0..FOR_EACH_CLASS).map(|_| class.text(random));
+        compare_cases(&format!("texts {}", class.words), texts);
+    }
+    let refused = (0..FOR_EACH_CAUSE).flat_map(|_| supplements::refused_lists(random));
+    let words = "lists of posts with supplements refused by each cause";
+    compare_refused_lists(words, refused);
+    let refused = (0..FOR_EACH_CAUSE).flat_map(|_| supplements::refused_texts(random));
+    let words = "texts with supplements refused by each cause";
+    compare_refused(words, refused);
 }
 
 /// Compares all but the inputs that are timed.
@@ -173,5 +217,6 @@ pub fn compare_all(random: &mut Random) -> io::Result<()> {
     compare_samples(random);
     compare_posts_calls(random);
     compare_section_2008(random);
+    compare_supplements(random);
     Ok(())
 }

@@ -1,8 +1,8 @@
 //! The time of a case: the library beside a twin written for speed, over texts that all differ.
 //!
-//! First the two are compared, on the texts to be timed, the examples, accepted and damaged texts of
-//! the second program, and texts of the 2008 Section; any difference ends the program. `--compare`
-//! stops there.
+//! First the two are compared, on the texts and lists to be timed, the examples, accepted and
+//! damaged texts and lists of the second program, texts of the 2008 Section, and lists and texts
+//! with supplements; any difference ends the program. `--compare` stops there.
 
 mod compare;
 mod texts;

@@ -1,7 +1,8 @@
 //! Texts and lists of posts drawn from a fixed seed, every one different and none refused; and,
-//! only to be compared, texts of the 2008 Section.
+//! only to be compared, texts of the 2008 Section, and lists and texts with supplements.
 
 pub mod section_2008;
+pub mod supplements;
 
 use second::benefits::FinalPay;
 use second::calendar::{Date, SECTION_PENSION_AGES};
@@ -76,10 +77,12 @@ pub enum Contracts {
 pub struct Kind {
     pub posts: usize,
     pub contracts: Contracts,
+    /// Whether every post has a supplement, or none.
+    pub supplements: bool,
 }
 
 /// The kinds of lists that are compared and timed.
-pub const KINDS: [Kind; 10] = [
+pub const KINDS: [Kind; 11] = [
     list(16, Contracts::Any),
     list(4, Contracts::Equal),
     list(4, Contracts::MostlyEqual),
@@ -90,10 +93,19 @@ pub const KINDS: [Kind; 10] = [
     list(16, Contracts::Equal),
     list(16, Contracts::MostlyEqual),
     list(16, Contracts::Different),
+    Kind {
+        posts: 16,
+        contracts: Contracts::Any,
+        supplements: true,
+    },
 ];
 
 const fn list(posts: usize, contracts: Contracts) -> Kind {
-    Kind { posts, contracts }
+    Kind {
+        posts,
+        contracts,
+        supplements: false,
+    }
 }
 
 /// Draws inputs until they are enough, each different from those before.
@@ -121,9 +133,14 @@ pub fn lists(random: &mut Random, kind: Kind) -> Vec<Vec<u8>> {
     enough(|| post_records(&posts_of(random, kind)))
 }
 
-/// Posts whose contracted minutes agree as the kind says.
+/// The posts of a list of the kind.
 fn posts_of(random: &mut Random, kind: Kind) -> Vec<Post> {
     let mut posts = posts(random, kind.posts as u64);
+    if kind.supplements {
+        for post in &mut posts {
+            post.supplement = random.between(10_000, 900_000);
+        }
+    }
     let others = match kind.contracts {
         Contracts::Any => return posts,
         Contracts::Equal => 0,
@@ -150,7 +167,7 @@ fn minutes(random: &mut Random, count: usize) -> Vec<u64> {
     minutes
 }
 
-/// Posts of varied weeks and rates, none of them whole-time.
+/// Posts of varied weeks and rates, none of them whole-time or with a supplement.
 fn posts(random: &mut Random, count: u64) -> Vec<Post> {
     let mut post = || {
         let any = random.between(SHORTEST_WEEK, 2_700);
@@ -159,6 +176,7 @@ fn posts(random: &mut Random, count: u64) -> Vec<Post> {
             contracted: random.between(60, whole_time - 1),
             whole_time,
             pay: random.between(100_000, 9_000_000),
+            supplement: 0,
         }
     };
     (0..count).map(|_| post()).collect()

@@ -105,7 +105,12 @@ pub fn time_lists(kind: Kind, lists: &[Vec<u8>]) {
         Contracts::MostlyEqual => ", most h equal",
         Contracts::Different => ", no h equal",
     };
-    let words = format!("posts call, {}{agree}", kind.posts);
+    let more = if kind.supplements {
+        ", supplements"
+    } else {
+        ""
+    };
+    let words = format!("posts call, {}{agree}{more}", kind.posts);
     let (mut places, mut other_places) = ([0; 16], [0; 16]);
     let times = rounds(
         lists,

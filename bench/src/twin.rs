@@ -31,6 +31,18 @@ enum Way {
     Up,
 }
 
+impl Way {
+    /// The way from a number to the one taken for it.
+    #[inline(always)]
+    fn of<Number: Ord>(number: Number, taken: Number) -> Way {
+        match taken.cmp(&number) {
+            Ordering::Less => Way::Down,
+            Ordering::Equal => Way::Exact,
+            Ordering::Greater => Way::Up,
+        }
+    }
+}
+
 /// A rounded number and its way.
 #[derive(Clone, Copy, Debug, Default, PartialEq, Eq)]
 struct Rounded {
@@ -58,14 +70,20 @@ impl Rounded {
 #[inline(always)]
 fn rounded(number: u64, divisor: u64) -> Rounded {
     let nearest = (number + divisor / 2) / divisor;
-    let way = match (nearest * divisor).cmp(&number) {
-        Ordering::Less => Way::Down,
-        Ordering::Equal => Way::Exact,
-        Ordering::Greater => Way::Up,
-    };
     Rounded {
         number: nearest,
-        way,
+        way: Way::of(number, nearest * divisor),
+    }
+}
+
+/// The same where the number may pass 64 bits and what comes of it does not.
+#[inline(always)]
+fn rounded_wide(number: u128, divisor: u64) -> Rounded {
+    let divisor = u128::from(divisor);
+    let nearest = (number + divisor / 2) / divisor;
+    Rounded {
+        number: nearest as u64,
+        way: Way::of(number, nearest * divisor),
     }
 }
 
@@ -81,11 +99,11 @@ fn unless(passes: bool, refusal: u64) -> Result<(), u64> {
 
 #[cfg(test)]
 mod tests {
-    use super::{case, posts, rounded, Rounded, Way};
+    use super::{case, rounded, rounded_wide, Rounded, Way};
     use second::Outcome;
 
-    const PRINTED: &[u8] =
-        b"0107B2040107F50401004300\n0207DF0000\n0305DC08CA0027AC40\n03038408CA00124F80\n";
+    const PRINTED: &[u8] = b"0107B2040107F50401004300\n0207DF0000\n\
+                             0305DC08CA0027AC4000000000\n03038408CA00124F8000000000\n";
 
     #[test]
     fn the_printed_case_gives_its_pence() {
@@ -109,6 +127,23 @@ mod tests {
         ];
         for (dividend, divisor, number, way) in figures {
             assert_eq!(rounded(dividend, divisor), Rounded { number, way });
+            let wide = rounded_wide(dividend.into(), divisor);
+            assert_eq!(wide, Rounded { number, way });
+        }
+    }
+
+    #[test]
+    fn a_number_past_64_bits_is_rounded_to_the_penny() {
+        let divisor = 16_384_000_000_003;
+        let multiple = 2_000_000_000 * u128::from(divisor);
+        let half = u128::from(divisor / 2);
+        let figures = [
+            (multiple, 2_000_000_000, Way::Exact),
+            (multiple + half, 2_000_000_000, Way::Down),
+            (multiple + half + 1, 2_000_000_001, Way::Up),
+        ];
+        for (dividend, number, way) in figures {
+            assert_eq!(rounded_wide(dividend, divisor), Rounded { number, way });
         }
     }
 
@@ -205,9 +240,19 @@ mod tests {
         (outcome.net_2015, outcome.rounded_up)
     }
 
-    /// The line of a whole-time post.
+    /// The line of a post.
+    fn post([contracted, whole_time, pay, supplement]: [u64; 4]) -> String {
+        format!("03{contracted:04X}{whole_time:04X}{pay:08X}{supplement:08X}\n")
+    }
+
+    /// Net 2015 pension and upward roundings of one year's posts.
+    fn of_posts<const COUNT: usize>(posts: [[u64; 4]; COUNT]) -> (u64, u64) {
+        net_and_ups(&[&posts.map(post).concat()])
+    }
+
+    /// The line of a whole-time post without a supplement.
     fn whole_time(pay: u64) -> String {
-        format!("0300010001{pay:08X}\n")
+        post([1, 1, pay, 0])
     }
 
     #[test]
@@ -223,9 +268,38 @@ mod tests {
             assert_eq!(net_and_ups(&[&whole_time(5_400), &debit]), given);
         }
         // Aggregates of 8.4 and 1.5.
-        let posts = "030005000600000008\n030002000300000004\n030001000200000001\n";
-        assert_eq!(net_and_ups(&[posts]), (0, 0));
-        assert_eq!(net_and_ups(&["030002000300000001\n"; 2]), (0, 1));
+        let posts = [[5, 6, 8, 0], [2, 3, 4, 0], [1, 2, 1, 0]];
+        assert_eq!(of_posts(posts), (0, 0));
+        assert_eq!(of_posts([[2, 3, 1, 0]; 2]), (0, 1));
+    }
+
+    #[test]
+    fn a_supplement_counts_in_the_pension() {
+        // A whole-time post of 13 + 14 pence.
+        assert_eq!(of_posts([[1, 1, 13, 14]]), (1, 1));
+        assert_eq!(of_posts([[1, 1, 13, 13]]), (0, 0));
+        // Aggregates of 107/7, 11/3 and 7/2.
+        assert_eq!(of_posts([[7, 10, 10, 0], [7, 10, 9, 2]]), (0, 0));
+        assert_eq!(of_posts([[3, 4, 2, 0], [3, 4, 2, 1]]), (0, 1));
+        assert_eq!(of_posts([[3, 4, 0, 2], [3, 4, 1, 2]]), (0, 1));
+        // Sixteen posts at the limits, all in full.
+        let most = [630, 10_080, 1_000_000_000, 1_000_000_000];
+        assert_eq!(of_posts([most; 16]), (592_592_593, 1));
+    }
+
+    #[test]
+    fn a_post_has_26_digits() {
+        let member = "0107B2040107F50401004300\n";
+        let year = "0207DF0000\n";
+        let earlier = "0305DC08CA0027AC40\n";
+        assert_refused(&[member, year, earlier], 3, 3);
+        assert_refused(&[member, earlier, year], 3, 2);
+        let largest = post([1, 2, 0, 1_000_000_000]);
+        let past = post([1, 2, 0, 1_000_000_001]);
+        assert_refused(&[member, year, &largest, &past], 7, 4);
+        assert_refused(&[member, &past], 4, 2);
+        let whole_time = post([2, 2, 0, 1]);
+        assert_refused(&[member, year, &whole_time, &whole_time], 8, 4);
     }
 
     #[test]
@@ -287,15 +361,5 @@ mod tests {
         }
         let days = ten_pays([0; 10], 16_426);
         assert_refused(&[MEMBER_2008, &days], 27, 2);
-    }
-
-    #[test]
-    fn the_second_of_two_equal_posts_is_cut() {
-        // Twice 20 hours at £10,000 of 37.5 hours.
-        let post = [0x04, 0xB0, 0x08, 0xCA, 0x00, 0x0F, 0x42, 0x40];
-        let mut places = [7; 3];
-        let given = posts(&[post, post].concat(), &mut places);
-        assert_eq!(given, (0, 1_875_000));
-        assert_eq!(places, [2_880_000, 2_520_000, 7]);
     }
 }

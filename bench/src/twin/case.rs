@@ -186,10 +186,11 @@ impl Case {
 
     #[inline(always)]
     fn take_post<'t>(&mut self, text: &'t [u8]) -> Result<&'t [u8], u64> {
-        let (post, after) = line::<19, _>(text, |fields| Post {
+        let (post, after) = line::<27, _>(text, |fields| Post {
             contracted: fields.number(2),
             whole_time: fields.number(2),
             pay: fields.number(4),
+            supplement: fields.number(4),
         })?;
         unless(self.stage == Stage::Years, 4)?;
         self.posts.join(&post)?;
