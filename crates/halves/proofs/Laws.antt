@@ -3,11 +3,10 @@ use mathlib.Core.Path.{_≡_, sym, _∙_, ap}
 use Prim.Native.Nat.{ℕ, _+_, _*_, _/_, _%_, _≤_, _<_}
 use native.Mathlib.Nat.{div-add-mod'}
 use native.Mathlib.Omega.{arith}
-use mathlib.Core.Bool.{true, false}
+use mathlib.Core.Logic.{⊎-elim}
 use lib.Dec.{ltb}
-use borrow.Author.Tests.{lt-ltb, le-ltb}
 use Rattle.measures.specs.Rounding.{rounded, way}
-use Rattle.measures.proofs.Tests.{ltb-iff}
+use Rattle.measures.proofs.Tests.{le-or-lt, ltb-iff}
 use Rattle.measures.proofs.Rounding.{rounded-add, way-add}
 use Rattle.halves.specs.declared.Halves.{Halves}
 use Rattle.halves.specs.Halves.{half, valueOf, Carried}
@@ -35,15 +34,23 @@ module _ (a b d m : ℕ) (pd : 0 < d) where
 
 -- the upper halves decide, and where they are equal the lower ones
 module _ (x y : Halves) where
-  pub upper-below : Carried x → x .upper < y .upper → true ≡ ltb (valueOf x) (valueOf y)
-  unfolding valueOf
-  upper-below h g = sym (lt-ltb (x .upper * half + x .lower) (y .upper * half + y .lower) (omega (arith, h)))
+  abbrev one : ℕ
+  one = x .upper * half + x .lower
 
-  pub upper-above : Carried y → y .upper < x .upper → false ≡ ltb (valueOf x) (valueOf y)
-  unfolding valueOf
-  upper-above h g = sym (le-ltb (x .upper * half + x .lower) (y .upper * half + y .lower) (omega (arith, h)))
+  abbrev other : ℕ
+  other = y .upper * half + y .lower
 
-  pub lower-decides : x .upper ≤ y .upper → y .upper ≤ x .upper → ltb (x .lower) (y .lower) ≡ ltb (valueOf x) (valueOf y)
+  pub upper-decides : Carried x → Carried y → (x .upper ≡ y .upper → ⊥) → ltb (x .upper) (y .upper) ≡ ltb (valueOf x) (valueOf y)
   unfolding valueOf
-  lower-decides g k =
-      sym (ltb-iff (x .upper * half + x .lower) (y .upper * half + y .lower) (x .lower) (y .lower) (λ e. omega (arith, e)) (λ e. omega (arith, e)))
+  upper-decides cx cy n = sym (ltb-iff one other (x .upper) (y .upper) below (λ k. omega (arith, k, cx)))
+    where
+      below : one < other → x .upper < y .upper
+      below k =
+          ⊎-elim
+          (λ (l : y .upper ≤ x .upper). absurd (n (omega (arith, k, l, cx, cy))))
+          (λ (l : x .upper < y .upper). l)
+          (le-or-lt (y .upper) (x .upper))
+
+  pub lower-decides : x .upper ≡ y .upper → ltb (x .lower) (y .lower) ≡ ltb (valueOf x) (valueOf y)
+  unfolding valueOf
+  lower-decides e = sym (ltb-iff one other (x .lower) (y .lower) (λ k. omega (arith, k, e)) (λ k. omega (arith, k, e)))

@@ -32,18 +32,19 @@ pub fn product(a: u64, b: u64) -> Halves
     }
 }
 
-// Whether x is below y: the upper halves decide, and where they are equal the lower ones.
+// Whether x is below y: the upper halves decide, and where they are equal the lower ones. Which is below no processor could foresee, so
+// the two numbers are chosen first and compared once.
 pub fn is_below(x: Halves, y: Halves) -> bool
     requires { ⌜ Carried x × Carried y ⌝ }
     ensures { λ r. ⌜ r ≡ ltb (valueOf x) (valueOf y) ⌝ }
 {
-    if x.upper < y.upper {
-        return true;
+    let mut one = x.upper;
+    let mut other = y.upper;
+    if x.upper == y.upper {
+        one = x.lower;
+        other = y.lower;
     }
-    if y.upper < x.upper {
-        return false;
-    }
-    x.lower < y.lower
+    one < other
 }
 
 // a × b/d to the nearest whole number, and which way it went. The upper half of the product is divided first, and what is left of it

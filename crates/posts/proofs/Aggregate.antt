@@ -214,7 +214,7 @@ worth-counted H (x ∷ xs) (q ∷ qs) k =
 
 -- no allowed division of a year's parts, valued in minutes times rate, is worth more than our aggregate
 pub optimal : (xs : List Post) (qs : List ℕ) → All HasMinutes xs → Rival xs qs → aggregate xs qs ≤ aggregatePay xs
-unfolding aggregate aggregatePay countedTogether
+unfolding aggregate aggregatePay countedTogether rounded
 optimal [] qs k r = le-refl _
 optimal (x ∷ xs) qs k r =
     rounded-mono (sumUnder (x ∷ xs)) (sum-under-pos x xs k) (le-trans (optimal-exact (x ∷ xs) qs k r) (worth-counted (contractedMinutes (x ∷ xs)) (x ∷ xs) (parts (x ∷ xs)) k))
@@ -312,14 +312,17 @@ unfolding full
 full-rounds H x pH k = head-whole H pH x (h x * H) k (full H x (h x * H) refl)
 
 -- and one without parts
-none-rounded : (H : ℕ) (x : Post) → 0 < H → HasMinutes x → rounded (counted H x 0) (rateUnder x * H) ≡ 0
+none-counted : (H : ℕ) (x : Post) → 0 < H → HasMinutes x → counted H x 0 ≡ 0 * rateOver x
 unfolding counted
-none-rounded H x pH k =
-    ap (λ (n : ℕ). rounded n (rateUnder x * H)) (ap (λ (t : Bool). cond t ((p x + s x) * (rateUnder x * H)) (0 * rateOver x)) (some (h x * H) (mul-pos (k .0) pH)) ∙ zero-mul (rateOver x))
-    ∙ rounded-zero (rateUnder x * H) (mul-pos (rate-under-pos x k) pH)
+none-counted H x pH k = ap (λ (t : Bool). cond t ((p x + s x) * (rateUnder x * H)) (0 * rateOver x)) (some (h x * H) (mul-pos (k .0) pH))
   where
     some : (n : ℕ) → 0 < n → eqb 0 n ≡ false
     some n g = ne-eqb 0 n (λ e. let z : ⊥ = omega (arith, e) in z)
+
+none-rounded : (H : ℕ) (x : Post) → 0 < H → HasMinutes x → rounded (counted H x 0) (rateUnder x * H) ≡ 0
+none-rounded H x pH k =
+    ap (λ (n : ℕ). rounded n (rateUnder x * H)) (none-counted H x pH k ∙ zero-mul (rateOver x))
+    ∙ rounded-zero (rateUnder x * H) (mul-pos (rate-under-pos x k) pH)
 
 paid-whole : (H : ℕ) (xs : List Post) → 0 < H → All HasMinutes xs → paid H xs (wholeTimeParts H xs) ≡ wholeTimePay xs
 unfolding paid wholeTimePay
@@ -340,3 +343,28 @@ aggregate-whole-time (x ∷ xs) k e =
   where
     H : ℕ
     H = contractedMinutes (x ∷ xs)
+
+-- in minutes times rate that year is worth as much: the rate of a whole-time post is (p + s)/w
+full-worth : (H : ℕ) (x : Post) → h x ≡ w x → h x * H * rateOver x ≡ counted H x (h x * H)
+unfolding counted
+full-worth H x e = rw (eq-eqb (h x * H) (h x * H) refl) (omega (arith, ap (λ (n : ℕ). n * H * (s x * h x)) e))
+
+whole-worth : (H : ℕ) (xs : List Post) → 0 < H → All HasMinutes xs → numerator (claims H xs) (wholeTimeParts H xs) ≡ countedTogether H xs (wholeTimeParts H xs)
+unfolding countedTogether
+whole-worth H [] pH k = refl
+whole-worth H (x ∷ xs) pH k = ap₂ (λ (a b : ℕ). a * denominator (claims H xs) + b * rateUnder x) (by (wholeTime x) refl) (whole-worth H xs pH (k .1))
+  where
+    by : (b : Bool) → wholeTime x ≡ b → cond b (h x * H) 0 * rateOver x ≡ counted H x (cond b (h x * H) 0)
+    by true e = full-worth H x (eqb-true (h x) (w x) e)
+    by false e = sym (none-counted H x pH (k .0))
+
+forced-worth : (xs : List Post) → All HasMinutes xs → anyWholeTime xs ≡ true → aggregate xs (parts xs) ≡ aggregatePay xs
+unfolding aggregate aggregatePay countedTogether
+forced-worth [] k e = refl
+forced-worth (x ∷ xs) k e =
+    let H : ℕ = contractedMinutes (x ∷ xs) in
+    rw e (ap (λ (n : ℕ). rounded n (sumUnder (x ∷ xs))) (whole-worth H (x ∷ xs) (omega (arith, k .0 .0)) k))
+
+-- "in a year with a post of h = w it has instead the parts that the posts step gives": a rival then has our parts and our worth
+pub whole-time-worth : (xs : List Post) (qs : List ℕ) → All HasMinutes xs → anyWholeTime xs ≡ true → Rival xs qs → (qs ≡ parts xs) × (aggregate xs qs ≡ aggregatePay xs)
+whole-time-worth xs qs k e r = let own = subst (λ (b : Bool). RivalIf b xs qs) e r in (own, ap (aggregate xs) own ∙ forced-worth xs k e)

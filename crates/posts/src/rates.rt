@@ -18,7 +18,7 @@ ghost use Rattle.posts.specs.Rates.{ordered, comparison, isHigher, isEqu
 // A yearly pay or supplement times minutes.
 fn pay_times(pay: Pence, minutes: Minutes) -> u64
     requires { ⌜ (pay .0 ≤ highestPay) × (minutes .0 ≤ longestWeek) ⌝ }
-    ensures { λ r. ⌜ r ≡ pay .0 * minutes .0 ⌝ }
+    ensures { λ r. ⌜ (r ≡ pay .0 * minutes .0) × (r ≤ highestPay * longestWeek) ⌝ }
 {
     pay.0 * minutes.0
 }

@@ -36,8 +36,8 @@ pub printed-case : answerOf (kept (decodedAll printed)) ≡ Outcome.Worked (reco
 unfolding rounded way upward tried after oneAt twoAt fourAt isLeap monthLength completingDay completedMonths monthsEarly dateStands isBefore datesRefusal counted countedTogether aggregatePay aggregateWay postStands postRefusal postAt revalued revaluedWay accrued accruedWay afterYear afterYearUps lumpDebit dateAt memberIn yearIn frameLength frameOf decoded memberRefusal yearStands lastOf beforePay hasSection inSection inOrder isNext yearRefusal openPosts fieldsRefusal refusalOf addPost keep refusalOfDecoded keepDecoded kept early pensionFrom pensionOf ownPay pension1995 factorFor reducedIf gross2015 gross1995 grossLumpSum debitFor debitOf debit2015 debit1995 debitLumpSum chargeOf yearUps upsFrom sectionUps reducedIfWay reduction2015 reduction1995 reductionLumpSum reductionUps debitWay debitUps chargeUpsOf upsOf payThere factorsThere debitsFit closingOf amountsOf workedUnless answerOf
 printed-case = refl
 
--- Request 2.7, scenario E of source document 001: 25 h of 37.5 at £26,000 with £2,000, in full £28,000; 16 h of 40 at £32,000 with £4,000, of which
--- 1,348.54 minutes count at their rate: 6,057,333 pence with the first post (down), whose 54th is 112,173 (up).
+-- Request 2.7, scenario E of source document 001: 16 h of 40 at £32,000 with £4,000, in full £36,000; 25 h of 37.5 at £26,000 with £2,000, of which
+-- 1,348 22/41 minutes count, at £41,000 for 2,250. Together 6,057,333.33 pence (down), whose 54th is 112,173 (up).
 abbrev pub supplements : List (List ℕ)
 supplements =
     (1 ∷ 7 ∷ 178 ∷ 4 ∷ 1 ∷ 7 ∷ 245 ∷ 4 ∷ 1 ∷ 0 ∷ 67 ∷ 0 ∷ [])

@@ -37,7 +37,7 @@ met c =
     let k = stands-worked x (s .pre .0) in
     let l = stands-worked y (s .pre .1) in
     let pence : Pence → ℕ = λ v. v .0 in
-    ⊎-elim (λ w. plain-products x y k l (s .pre .2) (s .pre .3) (ap pence (w .3) ∙ w .1 .ensures) (ap pence (w .4) ∙ w .2 .ensures))
+    ⊎-elim (λ w. plain-products x y k l (s .pre .2) (s .pre .3) (ap pence (w .3) ∙ w .1 .ensures .0) (ap pence (w .4) ∙ w .2 .ensures .0))
     (λ w. rw (w .1, w .2) (equal-contracts x y k l (s .pre .2) (s .pre .3) (w .0 .left)))
     (c .if1 .came)
 

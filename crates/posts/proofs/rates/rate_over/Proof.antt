@@ -1,25 +1,25 @@
 -- `posts::rates::rate_over` meets its contract.
 use mathlib.Core.Path.{ap₂}
 use Prim.Native.Nat.{_+_}
-use native.Mathlib.Nat.{le-trans, le-of-eq}
 use native.Mathlib.Omega.{arith}
-use Rattle.posts.proofs.Standing.{standing, minutes-within, over-most}
+use Rattle.posts.proofs.Standing.{standing}
 use Rattle.posts.proofs.rates.rate_over.Statement.{statement}
 use Rattle.posts.proofs.rates.rate_over.Tie as tie
 
 pay-times-requires : tie.Need-pay-times-requires
-pay-times-requires c κs = let x = standing (c .args .x) (c .pre) in (x .paid, x .week)
+pay-times-requires c κs = let x = standing (c .args .x) (c .pre) in (omega arith, omega arith)
 
 pay-times-requires-2 : tie.Need-pay-times-requires-2
-pay-times-requires-2 c κs = (standing (c .before .args .x) (c .before .pre) .more, minutes-within (c .before .args .x) (c .before .pre))
+pay-times-requires-2 c κs = let x = standing (c .before .args .x) (c .before .pre) in (omega arith, omega arith)
 
 add-result : tie.Need-add-result
-add-result c = omega (arith, c .pay-times2 .ensures, c .before .pay-times .ensures, over-most (c .before .before .args .x) (c .before .before .pre))
+add-result c = omega (arith, c .pay-times2 .ensures .1, c .before .pay-times .ensures .1)
 
 returns : tie.Need-returns
-returns c =
-    let e = ap₂ _+_ (c .before .pay-times .ensures) (c .pay-times2 .ensures) in
-    (e, le-trans (le-of-eq e) (over-most (c .before .before .args .x) (c .before .before .pre)))
+returns c = (
+  ap₂ _+_ (c .before .pay-times .ensures .0) (c .pay-times2 .ensures .0),
+  omega (arith, c .pay-times2 .ensures .1, c .before .pay-times .ensures .1),
+)
 
 pub rate-over-spec : {M : Type 1} → statement M
 rate-over-spec = tie.close (tie.spec pay-times-requires pay-times-requires-2 add-result returns)
