@@ -319,10 +319,8 @@ none-counted H x pH k = ap (λ (t : Bool). cond t ((p x + s x) * (rateUnder x * 
     some : (n : ℕ) → 0 < n → eqb 0 n ≡ false
     some n g = ne-eqb 0 n (λ e. let z : ⊥ = omega (arith, e) in z)
 
-none-rounded : (H : ℕ) (x : Post) → 0 < H → HasMinutes x → rounded (counted H x 0) (rateUnder x * H) ≡ 0
-none-rounded H x pH k =
-    ap (λ (n : ℕ). rounded n (rateUnder x * H)) (none-counted H x pH k ∙ zero-mul (rateOver x))
-    ∙ rounded-zero (rateUnder x * H) (mul-pos (rate-under-pos x k) pH)
+pub none-rounds : (H : ℕ) (x : Post) → 0 < H → HasMinutes x → Rounds (counted H x 0) (rateUnder x * H) 0 Way.Exact
+none-rounds H x pH k = rounds-whole (counted H x 0) 0 (rateUnder x * H) (mul-pos (rate-under-pos x k) pH) (none-counted H x pH k ∙ omega arith)
 
 paid-whole : (H : ℕ) (xs : List Post) → 0 < H → All HasMinutes xs → paid H xs (wholeTimeParts H xs) ≡ wholeTimePay xs
 unfolding paid wholeTimePay
@@ -331,7 +329,7 @@ paid-whole H (x ∷ xs) pH k = ap₂ _+_ (by (wholeTime x)) (paid-whole H xs pH 
   where
     by : (b : Bool) → rounded (counted H x (cond b (h x * H) 0)) (rateUnder x * H) ≡ cond b (p x + s x) 0
     by true = full-rounds H x pH (k .0) .0
-    by false = none-rounded H x pH (k .0)
+    by false = none-rounds H x pH (k .0) .0
 
 pub aggregate-whole-time : (xs : List Post) → All HasMinutes xs → anyWholeTime xs ≡ true → aggregatePay xs ≡ wholeTimePay xs
 unfolding wholeTimePay rounded aggregatePay countedTogether

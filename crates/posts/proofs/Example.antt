@@ -7,6 +7,7 @@ use Rattle.measures.specs.Rounding.{rounded, way}
 use Rattle.posts.specs.declared.Post.{Post}
 use Rattle.posts.specs.declared.Comparison.{Comparison}
 use Rattle.posts.specs.Posts.{postOf, parts, counted, countedTogether, aggregatePay, aggregateWay, aggregate}
+use Rattle.posts.specs.Refusals.{postStands, postRefusal}
 use Rattle.posts.specs.Rates.{comparison}
 
 abbrev two : Post → Post → List Post
@@ -46,3 +47,12 @@ supplements-rounded = (refl, refl, refl, refl)
 pub rival-shown : aggregate (two (postOf 3 4 30 0) (postOf 3 4 0 36)) (6 ∷ 18 ∷ []) ≡ 37
 unfolding aggregate rounded
 rival-shown = refl
+
+-- the limit of a supplement, within 7 and before 8
+pub supplement-limits :
+    (postRefusal [] (postOf 1 1 0 1000000000) ≡ 0) ×
+    (postRefusal [] (postOf 1 1 0 1000000001) ≡ 7) ×
+    (postRefusal (postOf 1 1 0 0 ∷ []) (postOf 2 2 0 1000000000) ≡ 8) ×
+    (postRefusal (postOf 1 1 0 0 ∷ []) (postOf 2 2 0 1000000001) ≡ 7)
+unfolding postStands postRefusal
+supplement-limits = (refl, refl, refl, refl)

@@ -25,7 +25,7 @@ use Rattle.posts.specs.Limits.{longestWeek, mostMinutes, heaviestWeek, m
 use Rattle.posts.specs.Posts.{h, w, p, s, HasMinutes, contractedMinutes, weightedParts, rateOver, rateUnder, counted, wholeTime, anyWholeTime, aggregatePay}
 use Rattle.posts.specs.Refusals.{postStands, Stands, postRefusal}
 use Rattle.posts.specs.Year.{noPost, noPosts, postsOf, Held, joinedBy, joining}
-use Rattle.posts.proofs.Aggregate.{Rounds, rate-under-pos, full-rounds, counted-most, payTotal, aggregate-bound}
+use Rattle.posts.proofs.Aggregate.{Rounds, rate-under-pos, full-rounds, none-rounds, counted-most, payTotal, aggregate-bound}
 
 -- the limits of refusal 7
 pub record Standing (x : Post) : Type 0 where
@@ -226,6 +226,10 @@ module _ (x : Post) (part H : ℕ) (e : Stands x) (some : 0 < H) where
   -- a post in full counts its pay and its supplement, which is exact
   pub pay-full : part ≡ h x * H → Rounds (counted H x part) (rateUnder x * H) (p x + s x) Way.Exact
   pay-full g = subst (λ (n : ℕ). Rounds (counted H x n) (rateUnder x * H) (p x + s x) Way.Exact) (sym g) (full-rounds H x some (stands-worked x e))
+
+  -- one without parts nothing
+  pub pay-none : part ≡ 0 → Rounds (counted H x part) (rateUnder x * H) 0 Way.Exact
+  pay-none g = subst (λ (n : ℕ). Rounds (counted H x n) (rateUnder x * H) 0 Way.Exact) (sym g) (none-rounds H x some (stands-worked x e))
 
   -- another its minutes times its rate
   pub pay-cut : (part ≡ h x * H → ⊥) → counted H x part ≡ rateOver x * part

@@ -21,6 +21,7 @@ ghost use mathlib.Core.Bool.{cond, true};
 ghost use Prim.Native.Nat.{_+_, _*_, _-_, _≤_, _<_, min};
 ghost use lib.ListN.{getD};
 ghost use Rattle.measures.specs.Limits.{highestCounted};
+ghost use Rattle.measures.specs.declared.Way.{Way};
 ghost use Rattle.measures.specs.Rounding.{rounded, way};
 ghost use Rattle.posts.specs.Limits.{heaviestWeek, mostMinutes};
 ghost use Rattle.posts.specs.Posts.{h, rateUnder, counted, wholeTime, parts};
@@ -102,17 +103,28 @@ fn under_parts(under: u64, total: Minutes) -> u64
     under * total.0
 }
 
-// What a post counts for its parts: pay and supplement for a post in full, else its minutes times its rate, one rounded fraction.
+// An amount for which nothing was rounded.
+fn unrounded(amount: Pence) -> Stepped
+    ensures { λ r. ⌜ (r .amount .0 ≡ amount .0) × (r .way ≡ Way.Exact) ⌝ }
+{
+    Stepped {
+        amount,
+        way: Way::Exact,
+    }
+}
+
+// What a post counts for its parts: pay and supplement for a post in full, nothing without parts, else its minutes times its rate, one
+// rounded fraction.
 fn pay_for(x: Post, part: u64, total: Minutes) -> Stepped
     requires { ⌜ Stands x × (part ≤ h x * total .0) × (0 < total .0) × (total .0 ≤ mostMinutes) ⌝ }
     ensures { λ r. ⌜ (r .amount .0 ≡ rounded (counted (total .0) x part) (rateUnder x * total .0)) × (r .way ≡ way (counted (total .0) x part) (rateUnder x * total .0)) × (r .amount .0 ≤ highestCounted) ⌝ }
 {
     let all = in_parts(x.contracted, total);
     if part == all {
-        return Stepped {
-            amount: Pence(x.pay.0 + x.supplement.0),
-            way: Way::Exact,
-        };
+        return unrounded(Pence(x.pay.0 + x.supplement.0));
+    }
+    if part == 0 {
+        return unrounded(Pence(0));
     }
     let under = under_parts(weighted_week(x.contracted, x.whole), total);
     in_pence(rounded_product(rate_over(x), part, under))
