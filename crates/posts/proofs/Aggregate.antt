@@ -4,7 +4,7 @@ use mathlib.Core.Bool.{Bool, true, false, cond}
 use mathlib.Core.List.{List, [], _∷_}
 use mathlib.Core.Logic.{⊎-elim}
 use Prim.Native.Nat.{ℕ, _+_, _*_, _-_, _≤_, _<_, min}
-use native.Mathlib.Nat.{mul-le-mul-right, mul-le-mul-left, zero-mul, le-refl, le-of-eq, le-trans, mul-pos}
+use native.Mathlib.Nat.{mul-le-mul-right, mul-le-mul-left, le-refl, le-of-eq, le-trans, mul-pos}
 use native.Mathlib.Omega.{arith}
 use lib.Dec.{eqb}
 use borrow.Author.Tests.{eq-eqb, ne-eqb, eqb-true}
@@ -12,7 +12,7 @@ use Rattle.measures.specs.Lists.{All}
 use Rattle.measures.proofs.Tests.{le-or-lt}
 use Rattle.measures.specs.declared.Way.{Way}
 use Rattle.measures.specs.Rounding.{rounded, way}
-use Rattle.measures.proofs.Rounding.{rounded-mono, rounded-add, rounded-scale, rounded-whole, rounded-zero, rounded-bound, way-add, way-scale, way-whole}
+use Rattle.measures.proofs.Rounding.{rounded-mono, rounded-add, rounded-scale, rounded-whole, rounded-bound, way-add, way-scale, way-whole}
 use Rattle.posts.specs.declared.Post.{Post}
 use Rattle.posts.specs.Division.{Claim, IsRate, numerator, denominator, Within, nothing, more, AllowedParts, division}
 use Rattle.posts.specs.Paid.{paid, eitherWay, paidWay}

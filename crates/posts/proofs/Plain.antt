@@ -8,7 +8,6 @@ use native.Mathlib.Omega.{arith}
 use lib.Dec.{leb, ltb}
 use Rattle.measures.specs.Lists.{All}
 use Rattle.measures.proofs.Lists.{all-end}
-use Rattle.measures.specs.declared.Way.{Way}
 use Rattle.measures.specs.Rounding.{rounded, way}
 use Rattle.measures.proofs.Rounding.{rounded-scale, way-scale}
 use Rattle.posts.specs.declared.Post.{Post}

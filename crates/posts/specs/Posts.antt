@@ -87,8 +87,8 @@ parts xs =
     (wholeTimeParts (contractedMinutes xs) xs)
     (division (weightedParts xs) (claims (contractedMinutes xs) xs))
 
--- What a post counts for q parts, above the line of a fraction whose line has w × h × H below it: "A post in full counts p + s; a curtailed
--- one counts its minutes times its rate; a lone whole-time post counts p + s." (2.7) In full, a post has all its parts.
+-- "A post in full counts p + s; a curtailed one counts its minutes times its rate; a lone whole-time post counts p + s." (2.7) What a post
+-- counts for q parts, as a fraction: what stands above the line, with w × h × H below it. In full, a post has all its parts.
 unfoldable pub counted : ℕ → Post → ℕ → ℕ
 counted H x q = cond (eqb q (h x * H)) ((p x + s x) * (rateUnder x * H)) (q * rateOver x)
 

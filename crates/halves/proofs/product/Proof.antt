@@ -1,6 +1,6 @@
 -- `halves::product` meets its contract.
-use Prim.Native.Nat.{_/_, _%_, _*_, _≤_, _<_}
-use native.Mathlib.Nat.{mod-lt, mul-le-mul}
+use Prim.Native.Nat.{_/_, _%_, _≤_}
+use native.Mathlib.Nat.{mul-le-mul}
 use native.Mathlib.Omega.{arith}
 use Rattle.measures.proofs.Products.{product}
 use Rattle.halves.specs.Halves.{half, valueOf}
