@@ -274,7 +274,8 @@ CANYONSIEVE_CHECKED struct canyonsieve_charges canyonsieve_change_of_employer(
  * refused ends the reading: 2, 3, 4, then 5 to 11, 27 or 28 by the frame's own fields; at the end, line 0: 4, 12, 13,
  * 14.
  *
- * It needs under 8 kilobytes of stack, the other calls under 4. */
+ * It needs under 8 kilobytes of stack, canyonsieve_posts under 6, the other calls under 4, the first call of a process
+ * included. */
 CANYONSIEVE_CHECKED struct canyonsieve_outcome canyonsieve_case(const uint8_t *text, size_t length);
 
 /* Months early: from the age at retirement, in completed months, to pension age. Below 0 for months late.
