@@ -9,7 +9,7 @@ use Rattle.posts.specs.Call.{postsIn, callRefusal, callAnswer, placesAfter}
 use Rattle.posts.proofs.Calling.{call-even}
 use Rattle.records.specs.Records.{recordsAnswer, recordsPlaces}
 
--- "8 bytes each": a length that is a multiple of it is that of whole posts
+-- "23 goes by 12 bytes" (2.7): a length that is a multiple of it is that of whole posts
 module _ (bytes : List ℕ) (whole : length bytes % bytesOfPost ≡ 0) where
   pub same-refusal : (places : ℕ) → callRefusal bytes places ≡ lentRefusal (postsIn bytes) places
   same-refusal places = call-even bytes places whole
