@@ -8,8 +8,12 @@ pub mod Pays
 pub mod Comparing
 pub mod Plain
 pub mod Example
+pub mod Ranks
 pub mod Standing
 pub mod Turns
 pub mod Ranked
+pub mod RankingHeld
+pub mod Moving
+pub mod Changing
 pub mod ReadingLaws
 pub mod Calling

@@ -3,16 +3,17 @@ use mathlib.Core.Path.{_≡_, refl, sym, _∙_, ap, subst}
 use mathlib.Core.Bool.{Bool, true, false, _&&_, not, cond}
 use mathlib.Core.List.{List, [], _∷_, _++_}
 use Prim.Native.Nat.{ℕ, _+_, _*_, _^_, _≤_, _<_}
-use native.Mathlib.Nat.{mul-le-mul, mul-le-mul-left, mul-comm, mul-pos}
+use native.Mathlib.Nat.{not-suc-le-zero, mul-le-mul, mul-le-mul-left, mul-comm, mul-pos}
 use native.Mathlib.Numerals.{add-one}
 use native.Mathlib.Omega.{arith}
 use lib.Dec.{ltb, eqb}
-use lib.ListN.{length, getD, length-set}
+use lib.ListN.{length, getD, set, length-set}
 use lib.Seq.{getD-take, take-suc-set, length-take-le}
 use borrow.Author.Tests.{ltb-true, lt-ltb, le-ltb, eqb-true, eq-eqb, ne-eqb}
 use Rattle.measures.specs.Lists.{All}
 use Rattle.measures.specs.Limits.{highestPay, highestSupplement, highestCounted, highestAggregate, mostPosts}
 use Rattle.measures.proofs.Lists.{all-end, all-at, all-map}
+use Rattle.measures.specs.declared.Minutes.{Minutes}
 use Rattle.measures.specs.declared.Way.{Way}
 use Rattle.measures.specs.Rounding.{rounded}
 use Rattle.measures.specs.Refusals.{unless}
@@ -24,7 +25,9 @@ use Rattle.posts.specs.declared.Changed.{Changed}
 use Rattle.posts.specs.Limits.{longestWeek, mostMinutes, heaviestWeek, mostParts, highestRateOver}
 use Rattle.posts.specs.Posts.{h, w, p, s, HasMinutes, contractedMinutes, weightedParts, rateOver, rateUnder, counted, wholeTime, anyWholeTime, aggregatePay}
 use Rattle.posts.specs.Refusals.{postStands, Stands, postRefusal}
-use Rattle.posts.specs.Year.{noPost, noPosts, postsOf, Held, joinedBy, joining}
+use Rattle.posts.specs.Rates.{minutesAhead}
+use Rattle.posts.specs.Year.{noPost, noPosts, postsOf, wholeTimes, RankedBy, Held, raisedBy, joinedBy, joining}
+use Rattle.posts.proofs.Ranks.{raised-length, ranked-end}
 use Rattle.posts.proofs.Aggregate.{Rounds, rate-under-pos, full-rounds, none-rounds, counted-most, payTotal, aggregate-bound}
 
 -- the limits of refusal 7
@@ -50,6 +53,10 @@ stand-worked xs a = all-map Stands HasMinutes stands-worked xs a
 pub minutes-most : (xs : List Post) → All Stands xs → contractedMinutes xs ≤ longestWeek * length xs
 minutes-most [] a = omega arith
 minutes-most (x ∷ xs) a = let t = standing x (a .0) in omega (arith, minutes-most xs (a .1))
+
+pub minutes-pos : (xs : List Post) → All Stands xs → 0 < length xs → 0 < contractedMinutes xs
+minutes-pos [] a g = g
+minutes-pos (x ∷ xs) a g = omega (arith, standing x (a .0) .some)
 
 -- its contracted minutes
 pub minutes-within : (x : Post) → Stands x → h x ≤ longestWeek
@@ -78,7 +85,17 @@ stand-end xs x a s = all-end Stands xs x a s
 -- ---- a year
 
 pub held-none : Held noPosts
-held-none = record { room = refl; few = omega arith; minutes = refl; weighted = refl; whole = refl; stand = tt }
+held-none =
+    record {
+      room = refl;
+      places = refl;
+      few = omega arith;
+      ranked = λ i g. absurd (not-suc-le-zero g);
+      minutes = refl;
+      weighted = refl;
+      wholes = refl;
+      stand = tt;
+    }
 
 module _ (y : YearPosts) (held : Held y) where
   pub posts-count : length (postsOf y) ≡ y .count
@@ -88,11 +105,7 @@ module _ (y : YearPosts) (held : Held y) where
   minutes-few = omega (arith, held .minutes, minutes-most (postsOf y) (held .stand), posts-count)
 
   pub minutes-some : 0 < y .count → 0 < y .minutes .0
-  minutes-some g = omega (arith, held .minutes, some (postsOf y) (held .stand) (omega (arith, posts-count)))
-    where
-      some : (xs : List Post) → All Stands xs → 0 < length xs → 0 < contractedMinutes xs
-      some [] a l = l
-      some (x ∷ xs) a l = omega (arith, standing x (a .0) .some)
+  minutes-some g = omega (arith, held .minutes, minutes-pos (postsOf y) (held .stand) (omega (arith, posts-count)))
 
   pub weighted-few : y .weighted ≤ heaviestWeek * y .count
   weighted-few = omega (arith, held .weighted, weighted-most (postsOf y) (held .stand), posts-count)
@@ -122,21 +135,34 @@ weighted-end : (xs : List Post) (x : Post) → weightedParts (xs ++ x ∷ []) �
 weighted-end [] x = omega arith
 weighted-end (y ∷ xs) x = omega (arith, weighted-end xs x)
 
-whole-end : (xs : List Post) (x : Post) → anyWholeTime (xs ++ x ∷ []) ≡ cond (anyWholeTime xs) true (wholeTime x)
-whole-end [] x = by (wholeTime x)
-  where
-    by : (b : Bool) → cond b true false ≡ b
-    by true = refl
-    by false = refl
-whole-end (y ∷ xs) x = by (wholeTime y) (whole-end xs x)
-  where
-    by : (b : Bool) → anyWholeTime (xs ++ x ∷ []) ≡ cond (anyWholeTime xs) true (wholeTime x) → cond b true (anyWholeTime (xs ++ x ∷ [])) ≡ cond (cond b true (anyWholeTime xs)) true (wholeTime x)
-    by true e = refl
-    by false e = e
+wholes-end : (xs : List Post) (x : Post) → wholeTimes (xs ++ x ∷ []) ≡ wholeTimes xs + cond (wholeTime x) 1 0
+wholes-end [] x = omega arith
+wholes-end (y ∷ xs) x = omega (arith, wholes-end xs x)
+
+one-at-most : (b : Bool) → cond b 1 0 ≤ 1
+one-at-most true = omega arith
+one-at-most false = omega arith
+
+pub wholes-most : (xs : List Post) → wholeTimes xs ≤ length xs
+wholes-most [] = omega arith
+wholes-most (x ∷ xs) = omega (arith, wholes-most xs, one-at-most (wholeTime x))
 
 module _ (y : YearPosts) (x : Post) (held : Held y) (accepted : postRefusal (postsOf y) x ≡ 0) where
   pub joins-few : y .count < mostPosts
   joins-few = omega (arith, joins (postsOf y) x accepted .few, posts-count y held)
+
+  -- the number of whole-time posts with it
+  pub joins-wholes : y .wholes + 1 ≤ mostPosts
+  joins-wholes = omega (arith, joins-few, held .wholes, wholes-most (postsOf y), posts-count y held)
+
+  -- the year as the code makes it
+  pub joined-is : (rs : List Minutes) (before : Minutes) (k m : ℕ)
+      → rs ≡ raisedBy x (y .ranking) (postsOf y) → before .0 ≡ minutesAhead x (y .count) (postsOf y) → k ≡ w x * h x → m ≡ cond (wholeTime x) 1 0
+      → _≡_ {A = YearPosts} (record { list = set (y .list) (y .count) x; ranking = set rs (y .count) before; count = y .count + 1; minutes = record { 0 = y .minutes .0 + h x }; weighted = y .weighted + k; wholes = y .wholes + m }) (joinedBy y x)
+  unfolding joinedBy
+  joined-is rs before k m e f g t =
+      rw (e, g, t)
+      (ap (λ (n : ℕ). record { list = set (y .list) (y .count) x; ranking = set (raisedBy x (y .ranking) (postsOf y)) (y .count) (record { 0 = n }); count = y .count + 1; minutes = record { 0 = y .minutes .0 + h x }; weighted = y .weighted + w x * h x; wholes = y .wholes + cond (wholeTime x) 1 0 }) f)
 
   -- the post joins at the end of the list
   pub posts-joined : postsOf (joinedBy y x) ≡ postsOf y ++ x ∷ []
@@ -148,10 +174,14 @@ module _ (y : YearPosts) (x : Post) (held : Held y) (accepted : postRefusal (pos
   held-joined =
       record {
         room = simp length-set (held .room);
+        places = simp (length-set, raised-length) (held .places);
         few = omega (arith, joins-few);
+        ranked =
+            subst (RankedBy (set (raisedBy x (y .ranking) (postsOf y)) (y .count) (record { 0 = minutesAhead x (y .count) (postsOf y) }))) (sym posts-joined)
+            (ranked-end (y .ranking) (postsOf y) x (y .count) (posts-count y held) (omega (arith, joins-few, held .places)) (held .ranked));
         minutes = ap (λ (n : ℕ). n + h x) (held .minutes) ∙ sym (minutes-end (postsOf y) x) ∙ ap contractedMinutes (sym posts-joined);
         weighted = ap (λ (n : ℕ). n + w x * h x) (held .weighted) ∙ sym (weighted-end (postsOf y) x) ∙ ap weightedParts (sym posts-joined);
-        whole = ap (λ (b : Bool). cond b true (wholeTime x)) (held .whole) ∙ sym (whole-end (postsOf y) x) ∙ ap anyWholeTime (sym posts-joined);
+        wholes = ap (λ (n : ℕ). n + cond (wholeTime x) 1 0) (held .wholes) ∙ sym (wholes-end (postsOf y) x) ∙ ap wholeTimes (sym posts-joined);
         stand = subst (All Stands) (sym posts-joined) (stand-end (postsOf y) x (held .stand) (joins (postsOf y) x accepted .stands));
       }
 

@@ -7,7 +7,7 @@ use native.Mathlib.Nat.{not-suc-le-zero, le-of-suc-le-suc}
 use native.Mathlib.Numerals.{add-one}
 use native.Mathlib.Omega.{arith}
 use lib.Dec.{ltb}
-use lib.ListN.{length, take, drop, getD, set, length-set, drop-of-length-le}
+use lib.ListN.{length, take, drop, getD, set, length-set, drop-of-length-le, take-append-drop}
 use lib.Seq.{drop-cons, set-at, append-snoc, getD-take, take-suc, take-all, length-take-le}
 use borrow.Author.Tests.{ltb-true, ltb-false, le-ltb}
 use Rattle.measures.specs.Limits.{highestCounted, mostPosts}
@@ -19,9 +19,10 @@ use Rattle.posts.specs.Division.{Claim, Within, nothing, more, higher, n
 use Rattle.posts.specs.Posts.{h, contractedMinutes, weightedParts, rateOver, rateUnder, claim, claims, counted, wholeTime, anyWholeTime, wholeTimeParts, parts, aggregatePay, aggregateWay}
 use Rattle.posts.specs.Rates.{rankedBefore, minutesAhead}
 use Rattle.posts.specs.Paid.{paid, eitherWay, paidWay}
-use Rattle.posts.specs.Year.{noPost, noParts, postsOf, Held}
+use Rattle.posts.specs.Year.{noPost, noParts, minutesBefore, postsOf, Held}
 use Rattle.posts.proofs.Aggregate.{aggregate-closed, way-closed, either-exact, parts-within}
 use Rattle.posts.proofs.Ranking.{division-at}
+use Rattle.posts.proofs.Ranks.{any-whole-time}
 use Rattle.posts.proofs.Standing.{stand-worked, posts-count}
 
 -- ---- the minutes ahead of a post
@@ -86,7 +87,7 @@ whole-at H (x ∷ xs) zero g = refl
 whole-at H (x ∷ xs) (suc i) g = whole-at H xs i (le-of-suc-le-suc g)
 
 -- the claim of the post itself is not among those at a higher rate
-ahead-at : (H : ℕ) (xs : List Post) (i : ℕ) → i < length xs
+pub ahead-at : (H : ℕ) (xs : List Post) (i : ℕ) → i < length xs
     → minutesAhead (getD xs i noPost) i xs * H
     ≡ partsOf (noLower (claim H (getD xs i noPost))) (take i (claims H xs)) + partsOf (higher (claim H (getD xs i noPost))) (drop (suc i) (claims H xs))
 ahead-at H xs i g =
@@ -165,13 +166,17 @@ either-assoc Way.Up v t = refl
 -- ---- writing
 
 -- a turn of a loop that copies s into the first places of d
-pub write-turn : (s d : List ℕ) (i : ℕ) → i < length s → i < length d → set (take i s ++ drop i d) i (getD s i 0) ≡ take (i + 1) s ++ drop (i + 1) d
-write-turn s d i hs hd =
+pub write-turn : {A : Type 0} (z : A) (s d : List A) (i : ℕ) → i < length s → i < length d → set (take i s ++ drop i d) i (getD s i z) ≡ take (i + 1) s ++ drop (i + 1) d
+write-turn z s d i hs hd =
     rw add-one
-    (ap (λ (r : List ℕ). set (take i s ++ r) i (getD s i 0)) (drop-cons d i 0 hd)
-    ∙ set-at (take i s) (getD d i 0) (drop (suc i) d) (getD s i 0) i (length-take-le i s (omega arith))
-    ∙ sym (append-snoc (take i s) (getD s i 0) (drop (suc i) d))
-    ∙ ap (λ (r : List ℕ). r ++ drop (suc i) d) (sym (take-suc s i 0 hs)))
+    (ap (λ (r : List _). set (take i s ++ r) i (getD s i z)) (drop-cons d i z hd)
+    ∙ set-at (take i s) (getD d i z) (drop (suc i) d) (getD s i z) i (length-take-le i s (omega arith))
+    ∙ sym (append-snoc (take i s) (getD s i z) (drop (suc i) d))
+    ∙ ap (λ (r : List _). r ++ drop (suc i) d) (sym (take-suc s i z hs)))
+
+-- its end, where the places past the n copied are those of s
+pub write-all : {A : Type 0} (s d : List A) (n : ℕ) → drop n s ≡ drop n d → take n s ++ drop n d ≡ s
+write-all s d n e = ap (λ (r : List _). take n s ++ r) (sym e) ∙ take-append-drop n s
 
 -- ---- the same for a year, as the code reads it
 
@@ -196,7 +201,7 @@ module _ (y : YearPosts) (held : Held y) where
   count : length (postsOf y) ≡ y .count
   count = posts-count y held
 
-  at-place : (i : ℕ) → i < y .count → getD (postsOf y) i noPost ≡ getD (y .list) i noPost
+  pub at-place : (i : ℕ) → i < y .count → getD (postsOf y) i noPost ≡ getD (y .list) i noPost
   at-place i g = getD-take (y .count) (y .list) i noPost g
 
   pub front : (i : ℕ) → i < y .count → drop i (postsOf y) ≡ getD (y .list) i noPost ∷ drop (i + 1) (postsOf y)
@@ -207,14 +212,21 @@ module _ (y : YearPosts) (held : Held y) where
   pub past : (i : ℕ) → y .count ≤ i → drop i (postsOf y) ≡ []
   past i g = drop-of-length-le (postsOf y) {i = i} (omega (arith, count))
 
-  pub part-is : (i : ℕ) → i < y .count
-      → getD (parts (postsOf y)) i 0
-      ≡ cond (y .whole)
+  -- the parts of the post at place i, as the code works them out
+  pub part-is : (i part : ℕ) → i < y .count
+      → part
+      ≡ cond (ltb 0 (y .wholes))
       (cond (wholeTime (getD (y .list) i noPost)) (h (getD (y .list) i noPost) * y .minutes .0) 0)
-      (min (h (getD (y .list) i noPost) * y .minutes .0) (y .weighted - minutesAhead (getD (y .list) i noPost) i (postsOf y) * y .minutes .0))
-  part-is i g =
-      rw (held .whole, held .minutes, held .weighted, ← at-place i g)
-      (part-at (postsOf y) i (omega (arith, count)))
+      (min (h (getD (y .list) i noPost) * y .minutes .0) (y .weighted - minutesBefore y i * y .minutes .0))
+      → part ≡ getD (parts (postsOf y)) i 0
+  part-is i part g e =
+      e
+      ∙ rw (held .wholes, ← any-whole-time (postsOf y), held .ranked i (omega (arith, count)), held .minutes, held .weighted, ← at-place i g)
+      (sym (part-at (postsOf y) i (omega (arith, count))))
+
+  -- the minutes before a post are among those of all posts
+  pub before-most : (i : ℕ) → i < y .count → minutesBefore y i ≤ y .minutes .0
+  before-most i g = omega (arith, held .ranked i (omega (arith, count)), held .minutes, ahead-most (getD (postsOf y) i noPost) i (postsOf y))
 
   pub part-most : (i : ℕ) → i < y .count → getD (parts (postsOf y)) i 0 ≤ h (getD (y .list) i noPost) * y .minutes .0
   part-most i g =
@@ -257,7 +269,7 @@ module _ (y : YearPosts) (held : Held y) where
         room = simp length-set (u .room);
         written =
             ap₂ (λ (l : List ℕ) (x : ℕ). set l i x) (u .written) e
-            ∙ write-turn (parts (postsOf y)) noParts i (omega (arith, count, parts-length (postsOf y))) (omega (arith, held .few));
+            ∙ write-turn 0 (parts (postsOf y)) noParts i (omega (arith, count, parts-length (postsOf y))) (omega (arith, held .few));
         most = omega (arith, u .most);
         earned = omega (arith, u .earned, paid-front i g .0, f ∙ ap (λ (q : ℕ). rounded (over i q) (under i)) e);
         way =
@@ -269,14 +281,14 @@ module _ (y : YearPosts) (held : Held y) where
       }
 
   pub upto-end : (out : List ℕ) (pay : ℕ) (went : Way) (i : ℕ) → Upto y out pay went i → y .count ≤ i
-      → (out ≡ parts (postsOf y) ++ drop (y .count) noParts) × (pay ≡ aggregatePay (postsOf y)) × (went ≡ aggregateWay (postsOf y))
+      → (out ≡ parts (postsOf y) ++ drop (length (postsOf y)) noParts) × (pay ≡ aggregatePay (postsOf y)) × (went ≡ aggregateWay (postsOf y))
   upto-end out pay went i u g = (
     u .written
         ∙ ap (λ (k : ℕ). take k (parts (postsOf y)) ++ drop k noParts) here
-        ∙ ap (λ (l : List ℕ). l ++ drop (y .count) noParts) (take-all (y .count) (parts (postsOf y)) (omega (arith, count, parts-length (postsOf y)))),
+        ∙ ap (λ (l : List ℕ). l ++ drop (length (postsOf y)) noParts) (take-all (length (postsOf y)) (parts (postsOf y)) (omega (arith, parts-length (postsOf y)))),
     omega (arith, u .earned, paid-past i g .0),
     sym (either-exact went) ∙ ap (eitherWay went) (sym (paid-past i g .1)) ∙ u .way,
   )
     where
-      here : i ≡ y .count
-      here = omega (arith, u .within)
+      here : i ≡ length (postsOf y)
+      here = omega (arith, u .within, count)

@@ -3,9 +3,11 @@ pub mod Division
 pub mod Posts
 pub mod Plain
 pub mod Refusals
+pub mod Changes
 pub mod Lent
 pub mod Call
 pub mod Rates
 pub mod Paid
 pub mod Year
+pub mod Reached
 pub mod Reading

@@ -6,6 +6,7 @@ use measures::Way;
 mod call;
 mod rates;
 mod reading;
+mod upkeep;
 mod year;
 
 pub use call::post_at;
@@ -43,13 +44,27 @@ pub enum Comparison {
     Equal,
 }
 
-// The posts of a year, and beside them H, K and whether one of them is whole-time.
+// The posts of a year, and beside them their ranking, H, K and how many of them are whole-time. The ranking is held as the contracted
+// minutes of the posts that go before each post: one goes before another exactly where it has fewer of them (`ranking-held`).
 pub struct YearPosts {
     list: [Post; MOST_POSTS],
+    ranking: [Minutes; MOST_POSTS],
     count: usize,
     minutes: Minutes,
     weighted: u64,
-    whole: bool,
+    wholes: u64,
+}
+
+// The ranking of a year's posts when another joins, and the minutes that go before that one.
+struct Entered {
+    ranking: [Minutes; MOST_POSTS],
+    before: Minutes,
+}
+
+// The places of a year's posts, and of their ranking.
+struct Places {
+    list: [Post; MOST_POSTS],
+    ranking: [Minutes; MOST_POSTS],
 }
 
 // A year after a change was tried, and the refusal beside it, 0 for none. Refused, the year is as it was.

@@ -1,13 +1,15 @@
-// The posts of a year, held in list order.
+// The posts of a year, held in list order with their ranking: they join at the end and leave by their position.
 use super::Allocation;
 use super::Changed;
 use super::LONGEST_WEEK;
 use super::MOST_POSTS;
+use super::Places;
 use super::Post;
 use super::YearPosts;
-use super::rates::goes_before;
 use super::rates::rate_over;
 use super::rates::weighted_week;
+use super::upkeep::entered;
+use super::upkeep::lowered;
 use halves::rounded_product;
 use measures::HIGHEST_PAY;
 use measures::HIGHEST_SUPPLEMENT;
@@ -17,18 +19,19 @@ use measures::Stepped;
 use measures::Way;
 use measures::in_pence;
 ghost use mathlib.Core.Path.{_≡_};
-ghost use mathlib.Core.Bool.{cond, true};
-ghost use Prim.Native.Nat.{_+_, _*_, _-_, _≤_, _<_, min};
-ghost use lib.ListN.{getD};
-ghost use Rattle.measures.specs.Limits.{highestCounted};
+ghost use mathlib.Core.Bool.{cond};
+ghost use Prim.Native.Nat.{_*_, _-_, _≤_, _<_, min};
+ghost use lib.Dec.{ltb};
+ghost use Rattle.measures.specs.Limits.{highestCounted, mostPosts};
 ghost use Rattle.measures.specs.declared.Way.{Way};
 ghost use Rattle.measures.specs.Rounding.{rounded, way};
 ghost use Rattle.posts.specs.Limits.{heaviestWeek, mostMinutes};
-ghost use Rattle.posts.specs.Posts.{h, rateUnder, counted, wholeTime, parts};
+ghost use Rattle.posts.specs.Posts.{h, rateUnder, counted, wholeTime};
 ghost use Rattle.posts.specs.Paid.{eitherWay};
 ghost use Rattle.posts.specs.Refusals.{Stands, postStands, postRefusal};
-ghost use Rattle.posts.specs.Rates.{minutesAhead};
-ghost use Rattle.posts.specs.Year.{noPost, noPosts, postsOf, Held, joinedBy, joining, Allocated};
+ghost use Rattle.posts.specs.Year.{noPosts, postsOf, Held, joinedBy, joining, WithoutPlace, Allocated};
+ghost use Rattle.posts.specs.Changes.{joins, leaves, without, positionRefusal};
+ghost use Rattle.posts.specs.Reached.{ChangedBy};
 
 // Whether the fields of a post stand (7 otherwise).
 fn stands(x: Post) -> bool
@@ -59,11 +62,11 @@ fn is_whole_time(x: Post) -> bool
     x.contracted.0 == x.whole.0
 }
 
-// Whether one of the posts before or this one is whole-time.
-fn any_whole_time(before: bool, x: Post) -> bool
-    ensures { λ r. ⌜ r ≡ cond before true (wholeTime x) ⌝ }
+// What a post adds to the number of whole-time posts: 1 or 0.
+fn whole_times(x: Post) -> u64
+    ensures { λ r. ⌜ (r ≡ cond (wholeTime x) 1 0) × (r ≤ 1) ⌝ }
 {
-    if before { true } else { is_whole_time(x) }
+    if is_whole_time(x) { 1 } else { 0 }
 }
 
 // Minutes as parts, H parts to a minute.
@@ -72,13 +75,6 @@ fn in_parts(minutes: Minutes, total: Minutes) -> u64
     ensures { λ r. ⌜ r ≡ minutes .0 * total .0 ⌝ }
 {
     minutes.0 * total.0
-}
-
-// The minutes where the test holds, else none.
-fn minutes_if(test: bool, minutes: Minutes) -> Minutes
-    ensures { λ r. ⌜ r .0 ≡ cond test (minutes .0) 0 ⌝ }
-{
-    if test { minutes } else { Minutes(0) }
 }
 
 // All of a post's parts, or what is left of the limit.
@@ -93,6 +89,19 @@ fn at_most(all: u64, limit: u64, taken: u64) -> u64
     } else {
         limit - taken
     }
+}
+
+// The parts of a post that so many minutes go before, in a year of H contracted minutes, K and so many whole-time posts: beside a
+// whole-time post that one has all its parts and the others have none.
+fn part_of(x: Post, before: Minutes, total: Minutes, weighted: u64, wholes: u64) -> u64
+    requires { ⌜ (h x ≤ mostMinutes) × (before .0 ≤ mostMinutes) × (total .0 ≤ mostMinutes) ⌝ }
+    ensures { λ r. ⌜ r ≡ cond (ltb 0 wholes) (cond (wholeTime x) (h x * total .0) 0) (min (h x * total .0) (weighted - before .0 * total .0)) ⌝ }
+{
+    let all = in_parts(x.contracted, total);
+    if 0 < wholes {
+        return if is_whole_time(x) { all } else { 0 };
+    }
+    at_most(all, weighted, in_parts(before, total))
 }
 
 // What stands below the line of a rate for parts, H to a minute.
@@ -141,6 +150,36 @@ fn either_way(one: Way, other: Way) -> Way
     }
 }
 
+// The refusal of a position among so many posts, counted from 1: 29 where it holds none, or 0.
+fn position_refusal(count: usize, position: u64) -> u64
+    ensures { λ r. ⌜ r ≡ positionRefusal count position ⌝ }
+{
+    if position < 1 {
+        return 29;
+    }
+    if (count as u64) < position {
+        return 29;
+    }
+    0
+}
+
+// The places from one on, each with what the next one held: the later ones of n move up.
+fn moved_up(list: [Post; MOST_POSTS], ranking: [Minutes; MOST_POSTS], at: usize, n: usize) -> Places
+    requires { ⌜ (at < n) × (n ≤ mostPosts) ⌝ }
+    ensures { λ r. ⌜ WithoutPlace list at n (r .list) × WithoutPlace ranking at n (r .ranking) ⌝ }
+{
+    let mut places = Places { list, ranking };
+    let mut i: usize = at;
+    while i + 1 < n {
+        let next = list[i + 1];
+        let before = ranking[i + 1];
+        places.list[i] = next;
+        places.ranking[i] = before;
+        i += 1;
+    }
+    places
+}
+
 impl YearPosts {
     // A year without posts.
     pub fn none() -> YearPosts
@@ -152,12 +191,14 @@ impl YearPosts {
             pay: Pence(0),
             supplement: Pence(0),
         };
+        let none = Minutes(0);
         YearPosts {
             list: [empty; MOST_POSTS],
+            ranking: [none; MOST_POSTS],
             count: 0,
             minutes: Minutes(0),
             weighted: 0,
-            whole: false,
+            wholes: 0,
         }
     }
 
@@ -175,7 +216,7 @@ impl YearPosts {
         if !is_whole_time(x) {
             return 0;
         }
-        if self.whole {
+        if 0 < self.wholes {
             return 8;
         }
         0
@@ -187,24 +228,30 @@ impl YearPosts {
         ensures { λ r. ⌜ r ≡ joinedBy self x ⌝ }
     {
         let at = self.count;
+        let place = entered(self, x);
+        let mut ranking = place.ranking;
+        let before = place.before;
+        ranking[at] = before;
         let mut list = self.list;
         list[at] = x;
         let minutes = Minutes(self.minutes.0 + x.contracted.0);
         let weighted = self.weighted + weighted_week(x.contracted, x.whole);
-        let whole = any_whole_time(self.whole, x);
+        let wholes = self.wholes + whole_times(x);
         YearPosts {
             list,
+            ranking,
             count: at + 1,
             minutes,
             weighted,
-            whole,
+            wholes,
         }
     }
 
     // Has a post join at the end: 7 and 8 refuse it.
     pub fn join(self, x: Post) -> Changed
         requires { ⌜ Held self ⌝ }
-        ensures { λ r. ⌜ r ≡ joining self x ⌝ }
+        ensures year { λ r. ⌜ r ≡ joining self x ⌝ }
+        ensures change { λ r. ⌜ ChangedBy self (joins x) r ⌝ }
     {
         let refusal = self.refusal_of(x);
         if refusal != 0 {
@@ -217,41 +264,50 @@ impl YearPosts {
         Changed { year, refusal }
     }
 
-    // The minutes of the posts that go before the one at a place.
-    fn minutes_ahead(self, at: usize) -> Minutes
+    // The year that the post at a place has left, later ones moving up.
+    fn left(self, at: usize) -> YearPosts
         requires { ⌜ Held self × (at < self .count) ⌝ }
-        ensures { λ r. ⌜ r .0 ≡ minutesAhead (getD (self .list) at noPost) at (postsOf self) ⌝ }
+        ensures { λ r. ⌜ Held r × (postsOf r ≡ without at (postsOf self)) ⌝ }
     {
         let n = self.count;
         let x = self.list[at];
-        let mut minutes = Minutes(0);
-        let mut i: usize = 0;
-        while i < n {
-            let y = self.list[i];
-            minutes.0 += minutes_if(goes_before(x, i < at, y), y.contracted).0;
-            i += 1;
+        let all = self.list;
+        let places = moved_up(all, lowered(self, at), at, n);
+        let list = places.list;
+        let ranking = places.ranking;
+        let minutes = Minutes(self.minutes.0 - x.contracted.0);
+        let weighted = self.weighted - weighted_week(x.contracted, x.whole);
+        let wholes = self.wholes - whole_times(x);
+        YearPosts {
+            list,
+            ranking,
+            count: n - 1,
+            minutes,
+            weighted,
+            wholes,
         }
-        minutes
     }
 
-    // The parts of the post at a place.
-    fn part_of(self, at: usize) -> u64
-        requires { ⌜ Held self × (at < self .count) ⌝ }
-        ensures { λ r. ⌜ r ≡ getD (parts (postsOf self)) at 0 ⌝ }
+    // Has the post at a position leave, counted from 1, later ones moving up: 29 refuses a position that holds no post.
+    pub fn leave(self, position: u64) -> Changed
+        requires { ⌜ Held self ⌝ }
+        ensures { λ r. ⌜ ChangedBy self (leaves position) r ⌝ }
     {
-        let x = self.list[at];
-        let total = self.minutes;
-        let all = in_parts(x.contracted, total);
-        if self.whole {
-            return if is_whole_time(x) { all } else { 0 };
+        let refusal = position_refusal(self.count, position);
+        if refusal != 0 {
+            return Changed {
+                year: self,
+                refusal,
+            };
         }
-        at_most(all, self.weighted, in_parts(self.minutes_ahead(at), total))
+        let year = self.left((position - 1) as usize);
+        Changed { year, refusal }
     }
 
     // The parts of each post, the aggregate pay, and which way that was rounded.
     pub fn allocate(self) -> Allocation
         requires { ⌜ Held self ⌝ }
-        ensures { λ r. ⌜ Allocated self r ⌝ }
+        ensures { λ r. ⌜ Allocated (postsOf self) r ⌝ }
     {
         let n = self.count;
         let total = self.minutes;
@@ -260,7 +316,13 @@ impl YearPosts {
         let mut way = Way::Exact;
         let mut i: usize = 0;
         while i < n {
-            let part = self.part_of(i);
+            let part = part_of(
+                self.list[i],
+                self.ranking[i],
+                total,
+                self.weighted,
+                self.wholes,
+            );
             let earned = pay_for(self.list[i], part, total);
             parts[i] = part;
             aggregate.0 += earned.amount.0;

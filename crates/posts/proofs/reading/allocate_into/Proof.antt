@@ -2,7 +2,7 @@
 use mathlib.Core.Path.{_≡_, sym, _∙_, ap, ap₂}
 use Prim.Native.Nat.{ℕ}
 use mathlib.Core.List.{List, _++_}
-use lib.ListN.{take, drop}
+use lib.ListN.{length, take, drop}
 use lib.Seq.{take-at}
 use Rattle.posts.specs.declared.YearPosts.{YearPosts}
 use Rattle.posts.specs.declared.Allocation.{Allocation}
@@ -16,8 +16,8 @@ use Rattle.posts.proofs.reading.allocate_into.Statement.{statement}
 use Rattle.posts.proofs.reading.allocate_into.Tie as tie
 
 -- as many of the allocated parts as there are posts are those of the posts
-written : (y : YearPosts) → Held y → (a : Allocation) → Allocated y a → take (y .count) (a .parts) ≡ parts (postsOf y)
-written y held a e = ap (take (y .count)) (e .parts) ∙ take-at (parts (postsOf y)) (drop (y .count) noParts) (y .count) (parts-length (postsOf y) ∙ posts-count y held)
+written : (y : YearPosts) → Held y → (a : Allocation) → Allocated (postsOf y) a → take (y .count) (a .parts) ≡ parts (postsOf y)
+written y held a e = ap (take (y .count)) (e .parts) ∙ take-at (parts (postsOf y)) (drop (length (postsOf y)) noParts) (y .count) (parts-length (postsOf y) ∙ posts-count y held)
 
 allocate-requires : tie.Need-allocate-requires
 allocate-requires c κs = search needs

@@ -11,7 +11,7 @@ join-requires c κs = search needs
 returns : tie.Need-returns
 returns c =
     let s = c .before .before .before .before in
-    c .join .ensures ∙ on-tried (s .args .read) (s .args .x) (c .before .before .if1 .taken)
+    c .join .ensures .0 ∙ on-tried (s .args .read) (s .args .x) (c .before .before .if1 .taken)
 
 returns-2 : tie.Need-returns-2
 returns-2 c = on-refused (c .before .before .args .read) (c .before .before .args .x) (c .if1 .left)

@@ -41,7 +41,7 @@ loop-again c =
     let s = l .before in (
       omega arith,
       simp length-set (l .loop .inv .1),
-      ap (λ (z : List ℕ). set z (l .loop .i) (getD (s .args .t1) (l .loop .i) 0)) (l .loop .inv .2) ∙ write-turn (s .args .t1) (s .args .places .now) (l .loop .i) (omega arith) (omega arith),
+      ap (λ (z : List ℕ). set z (l .loop .i) (getD (s .args .t1) (l .loop .i) 0)) (l .loop .inv .2) ∙ write-turn 0 (s .args .t1) (s .args .places .now) (l .loop .i) (omega arith) (omega arith),
     )
 
 same-length : tie.Need-same-length Inv-loop μ-loop

@@ -8,7 +8,7 @@ join-requires : tie.Need-join-requires
 join-requires c κs = search needs
 
 returns : tie.Need-returns
-returns c = rw (c .before .before .join .ensures) (post-handed _ _)
+returns c = rw (c .before .before .join .ensures .0) (post-handed _ _)
 
 pub take-post-spec : {M : Type 1} → statement M
 take-post-spec = tie.close (tie.spec join-requires returns)
