@@ -1,11 +1,12 @@
 -- A change of a year: what it promises, by its refusal; and every list of changes from an empty year.
 use mathlib.Core.Path.{_≡_, refl, sym, _∙_, ap, subst}
+use mathlib.Core.Bool.{Bool, true, false, cond}
 use mathlib.Core.List.{List, [], _∷_, _++_}
 use Prim.Native.Nat.{ℕ, _-_, _≤_, _<_}
 use native.Mathlib.Omega.{arith}
-use lib.Dec.{leb}
+use lib.Dec.{eqb, leb}
 use lib.ListN.{length}
-use borrow.Author.Tests.{eq-eqb, le-leb, lt-leb, leb-true}
+use borrow.Author.Tests.{eq-eqb, eqb-true, eqb-false, le-leb, lt-leb, leb-true}
 use Rattle.measures.specs.Tries.{tried, after}
 use Rattle.measures.proofs.Tests.{passed, and-left, and-right}
 use Rattle.measures.proofs.Trying.{after-end, tried-refused}
@@ -14,7 +15,7 @@ use Rattle.posts.specs.declared.YearPosts.{YearPosts}
 use Rattle.posts.specs.declared.Changed.{Changed}
 use Rattle.posts.specs.Refusals.{postRefusal}
 use Rattle.posts.specs.Changes.{Change, joins, leaves, without, positionRefusal, changeRefusal, changedPosts, remaining}
-use Rattle.posts.specs.Year.{postsOf, Held, joinedBy, Allocated}
+use Rattle.posts.specs.Year.{postsOf, Held, joinedBy, joining, Allocated}
 use Rattle.posts.specs.Reached.{ChangedBy, Reached, start, next, Afresh}
 use Rattle.posts.proofs.Standing.{posts-count, posts-joined, held-joined, held-none}
 use Rattle.posts.proofs.RankingHeld.{ranking-held}
@@ -45,17 +46,20 @@ module _ (y : YearPosts) (c : Change) (n : ℕ) (e : n ≡ changeRefusal (postsO
 
 -- ---- a post joins
 
-module _ (y : YearPosts) (held : Held y) (x : Post) (n : ℕ) (e : n ≡ postRefusal (postsOf y) x) where
-  pub join-refused-by : (n ≡ 0 → ⊥) → ChangedBy y (joins x) (record { year = y; refusal = n })
-  unfolding changeRefusal
-  join-refused-by f = change-refused y (joins x) n e held f
+module _ (y : YearPosts) (x : Post) (held : Held y) where
+  join-changed : ChangedBy y (joins x) (joining y x)
+  unfolding joining changeRefusal changedPosts
+  join-changed = by (eqb (postRefusal (postsOf y) x) 0) refl
+    where
+      by : (t : Bool) → eqb (postRefusal (postsOf y) x) 0 ≡ t → ChangedBy y (joins x) (record { year = cond t (joinedBy y x) y; refusal = postRefusal (postsOf y) x })
+      by true e =
+          let z = eqb-true _ 0 e in
+          change-made y (joins x) _ refl z (joinedBy y x) (held-joined y x held z) (posts-joined y x held z)
+      by false e = change-refused y (joins x) _ refl held (eqb-false _ 0 e)
 
-  pub join-made : n ≡ 0 → (r : YearPosts) → r ≡ joinedBy y x → ChangedBy y (joins x) (record { year = r; refusal = n })
-  unfolding changeRefusal changedPosts
-  join-made z r f =
-      change-made y (joins x) n e z r
-      (subst Held (sym f) (held-joined y x held (sym e ∙ z)))
-      (ap postsOf f ∙ posts-joined y x held (sym e ∙ z))
+  -- what a joining hands back is what a change promises
+  pub join-promised : (r : Changed) → r ≡ joining y x → (r ≡ joining y x) × ChangedBy y (joins x) r
+  join-promised r e = (e, subst (ChangedBy y (joins x)) (sym e) join-changed)
 
 -- ---- a post leaves
 

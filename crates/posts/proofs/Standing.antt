@@ -1,5 +1,5 @@
 -- What holds of posts that stand and of a year that holds them.
-use mathlib.Core.Path.{_≡_, refl, sym, _∙_, ap, subst}
+use mathlib.Core.Path.{_≡_, refl, sym, _∙_, ap, ap₂, subst}
 use mathlib.Core.Bool.{Bool, true, false, _&&_, not, cond}
 use mathlib.Core.List.{List, [], _∷_, _++_}
 use Prim.Native.Nat.{ℕ, _+_, _*_, _^_, _≤_, _<_}
@@ -210,14 +210,13 @@ module _ (y : YearPosts) (x : Post) where
       by false e = held
 
   -- as the code makes them
-  module _ (r : ℕ) (e : r ≡ postRefusal (postsOf y) x) where
-    pub join-refused : (r ≡ 0 → ⊥) → _≡_ {A = Changed} (record { year = y; refusal = r }) (joining y x)
-    unfolding joining
-    join-refused n = simp (← e, ne-eqb _ _ n)
+  pub join-refused : (r : ℕ) → r ≡ postRefusal (postsOf y) x → (r ≡ 0 → ⊥) → _≡_ {A = Changed} (record { year = y; refusal = r }) (joining y x)
+  unfolding joining
+  join-refused r e n = simp (← e, ne-eqb _ _ n)
 
-    pub join-accepted : r ≡ 0 → (z : YearPosts) → z ≡ joinedBy y x → _≡_ {A = Changed} (record { year = z; refusal = r }) (joining y x)
-    unfolding joining
-    join-accepted f z g = simp (← e, f, g)
+  pub join-accepted : postRefusal (postsOf y) x ≡ 0 → (r : Changed) → r .year ≡ joinedBy y x → r .refusal ≡ 0 → r ≡ joining y x
+  join-accepted z r e f =
+      ap₂ (λ (a : YearPosts) (n : ℕ). record { year = a; refusal = n }) (e ∙ sym (joining-year z)) (f ∙ sym (joining-refusal ∙ z))
 
 -- ---- the tests of a post that would join, in their order
 

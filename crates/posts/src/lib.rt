@@ -4,9 +4,9 @@ use measures::Pence;
 use measures::Way;
 
 mod call;
+mod changes;
 mod rates;
 mod reading;
-mod upkeep;
 mod year;
 
 pub use call::post_at;
@@ -53,12 +53,6 @@ pub struct YearPosts {
     minutes: Minutes,
     weighted: u64,
     wholes: u64,
-}
-
-// The ranking of a year's posts when another joins, and the minutes that go before that one.
-struct Entered {
-    ranking: [Minutes; MOST_POSTS],
-    before: Minutes,
 }
 
 // The places of a year's posts, and of their ranking.

@@ -3,13 +3,15 @@ use super::Allocation;
 use super::Changed;
 use super::LONGEST_WEEK;
 use super::MOST_POSTS;
-use super::Places;
 use super::Post;
 use super::YearPosts;
+use super::changes::lowered;
+use super::changes::minutes_if;
+use super::changes::moved_up;
+use super::changes::position_refusal;
+use super::rates::goes_before;
 use super::rates::rate_over;
 use super::rates::weighted_week;
-use super::upkeep::entered;
-use super::upkeep::lowered;
 use halves::rounded_product;
 use measures::HIGHEST_PAY;
 use measures::HIGHEST_SUPPLEMENT;
@@ -22,15 +24,16 @@ ghost use mathlib.Core.Path.{_≡_};
 ghost use mathlib.Core.Bool.{cond};
 ghost use Prim.Native.Nat.{_*_, _-_, _≤_, _<_, min};
 ghost use lib.Dec.{ltb};
-ghost use Rattle.measures.specs.Limits.{highestCounted, mostPosts};
+ghost use lib.ListN.{length};
+ghost use Rattle.measures.specs.Limits.{highestCounted};
 ghost use Rattle.measures.specs.declared.Way.{Way};
 ghost use Rattle.measures.specs.Rounding.{rounded, way};
 ghost use Rattle.posts.specs.Limits.{heaviestWeek, mostMinutes};
 ghost use Rattle.posts.specs.Posts.{h, rateUnder, counted, wholeTime};
 ghost use Rattle.posts.specs.Paid.{eitherWay};
 ghost use Rattle.posts.specs.Refusals.{Stands, postStands, postRefusal};
-ghost use Rattle.posts.specs.Year.{noPosts, postsOf, Held, joinedBy, joining, WithoutPlace, Allocated};
-ghost use Rattle.posts.specs.Changes.{joins, leaves, without, positionRefusal};
+ghost use Rattle.posts.specs.Year.{noPosts, postsOf, Held, joinedBy, joining, Allocated};
+ghost use Rattle.posts.specs.Changes.{joins, leaves, without};
 ghost use Rattle.posts.specs.Reached.{ChangedBy};
 
 // Whether the fields of a post stand (7 otherwise).
@@ -150,40 +153,11 @@ fn either_way(one: Way, other: Way) -> Way
     }
 }
 
-// The refusal of a position among so many posts, counted from 1: 29 where it holds none, or 0.
-fn position_refusal(count: usize, position: u64) -> u64
-    ensures { λ r. ⌜ r ≡ positionRefusal count position ⌝ }
-{
-    if position < 1 {
-        return 29;
-    }
-    if (count as u64) < position {
-        return 29;
-    }
-    0
-}
-
-// The places from one on, each with what the next one held: the later ones of n move up.
-fn moved_up(list: [Post; MOST_POSTS], ranking: [Minutes; MOST_POSTS], at: usize, n: usize) -> Places
-    requires { ⌜ (at < n) × (n ≤ mostPosts) ⌝ }
-    ensures { λ r. ⌜ WithoutPlace list at n (r .list) × WithoutPlace ranking at n (r .ranking) ⌝ }
-{
-    let mut places = Places { list, ranking };
-    let mut i: usize = at;
-    while i + 1 < n {
-        let next = list[i + 1];
-        let before = ranking[i + 1];
-        places.list[i] = next;
-        places.ranking[i] = before;
-        i += 1;
-    }
-    places
-}
-
 impl YearPosts {
     // A year without posts.
     pub fn none() -> YearPosts
-        ensures { λ r. ⌜ r ≡ noPosts ⌝ }
+        ensures empty { λ r. ⌜ r ≡ noPosts ⌝ }
+        ensures year { λ r. ⌜ Held r ⌝ }
     {
         let empty = Post {
             contracted: Minutes(0),
@@ -200,6 +174,14 @@ impl YearPosts {
             weighted: 0,
             wholes: 0,
         }
+    }
+
+    // How many posts it has.
+    pub fn count(self) -> usize
+        requires { ⌜ Held self ⌝ }
+        ensures { λ r. ⌜ r ≡ length (postsOf self) ⌝ }
+    {
+        self.count
     }
 
     // The refusal of a post after those of the year: 7, then 8, or 0.
@@ -222,28 +204,34 @@ impl YearPosts {
         0
     }
 
-    // The year that a post has joined at the end.
-    fn joined(self, x: Post) -> YearPosts
+    // The year that a post has joined at the end, with no refusal. The post is compared once with each of the others: of two, the minutes
+    // of the one that goes first go before the other.
+    fn joined(mut self, x: Post) -> Changed
         requires { ⌜ Held self × (postRefusal (postsOf self) x ≡ 0) ⌝ }
-        ensures { λ r. ⌜ r ≡ joinedBy self x ⌝ }
+        ensures { λ r. ⌜ (r .year ≡ joinedBy self x) × (r .refusal ≡ 0) ⌝ }
     {
         let at = self.count;
-        let place = entered(self, x);
-        let mut ranking = place.ranking;
-        let before = place.before;
+        let mut ranking = self.ranking;
+        let mut before = Minutes(0);
+        let mut i: usize = 0;
+        while i < at {
+            let y = self.list[i];
+            let ahead = goes_before(y, false, x);
+            let old = self.ranking[i];
+            ranking[i] = Minutes(old.0 + minutes_if(ahead, x.contracted).0);
+            before.0 += minutes_if(!ahead, y.contracted).0;
+            i += 1;
+        }
         ranking[at] = before;
-        let mut list = self.list;
-        list[at] = x;
-        let minutes = Minutes(self.minutes.0 + x.contracted.0);
-        let weighted = self.weighted + weighted_week(x.contracted, x.whole);
-        let wholes = self.wholes + whole_times(x);
-        YearPosts {
-            list,
-            ranking,
-            count: at + 1,
-            minutes,
-            weighted,
-            wholes,
+        self.list[at] = x;
+        self.ranking = ranking;
+        self.count = at + 1;
+        self.minutes.0 += x.contracted.0;
+        self.weighted += weighted_week(x.contracted, x.whole);
+        self.wholes += whole_times(x);
+        Changed {
+            year: self,
+            refusal: 0,
         }
     }
 
@@ -260,8 +248,7 @@ impl YearPosts {
                 refusal,
             };
         }
-        let year = self.joined(x);
-        Changed { year, refusal }
+        self.joined(x)
     }
 
     // The year that the post at a place has left, later ones moving up.

@@ -11,7 +11,7 @@ lengths-refusal-requires : tie.Need-lengths-refusal-requires
 lengths-refusal-requires c κs = search needs
 
 returns : tie.Need-returns
-returns c = begun-by _ _ _ _ (c .before .none .ensures) (c .lengths-refusal .ensures)
+returns c = begun-by _ _ _ _ (c .before .none .ensures .0) (c .lengths-refusal .ensures)
 
 pub reading-begun-spec : {M : Type 1} → statement M
 reading-begun-spec = tie.close (tie.spec none-requires lengths-refusal-requires returns)

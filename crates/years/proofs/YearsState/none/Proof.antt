@@ -7,7 +7,7 @@ none-requires : tie.Need-none-requires
 none-requires c κs = search needs
 
 returns : tie.Need-returns
-returns c = rw (c .none .ensures)
+returns c = rw (c .none .ensures .0)
 
 pub none-spec : {M : Type 1} → statement M
 none-spec = tie.close (tie.spec none-requires returns)

@@ -26,7 +26,7 @@ returns-2 : tie.Need-returns-2
 unfolding yearTaken tried withYear
 returns-2 c =
     let r = c .before .before .before in
-    rw (← (r .before .before .refusal-of .ensures), r .before .if1 .left, ← (r .pension .ensures .0), ← (r .pension .ensures .1), c .before .none .ensures)
+    rw (← (r .before .before .refusal-of .ensures), r .before .if1 .left, ← (r .pension .ensures .0), ← (r .pension .ensures .1), c .before .none .ensures .0)
 
 pub take-year-spec : {M : Type 1} → statement M
 take-year-spec =

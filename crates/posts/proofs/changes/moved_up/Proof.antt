@@ -1,11 +1,11 @@
--- `posts::year::moved_up` meets its contract: the invariant is `MovedUp`, of the posts and of their ranking.
+-- `posts::changes::moved_up` meets its contract: the invariant is `MovedUp`, of the posts and of their ranking.
 use Prim.Native.Nat.{_-_}
 use Rattle.posts.specs.Year.{noPost, noMinutes}
 use Rattle.posts.proofs.Moving.{MovedUp, moved-start, moved-turn, moved-end}
 use native.Mathlib.Omega.{arith}
 use borrow.Author.Needs.{needs}
-use Rattle.posts.proofs.year.moved_up.Statement.{statement}
-use Rattle.posts.proofs.year.moved_up.Tie as tie
+use Rattle.posts.proofs.changes.moved_up.Statement.{statement}
+use Rattle.posts.proofs.changes.moved_up.Tie as tie
 
 abbrev Inv-loop : tie.InvT-loop
 Inv-loop at n list ranking places₀ i₀ places i = MovedUp list at n (places .list) i × MovedUp ranking at n (places .ranking) i

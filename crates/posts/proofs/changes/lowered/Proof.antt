@@ -1,4 +1,4 @@
--- `posts::upkeep::lowered` meets its contract: the invariant is `Leaving`, the posts passed compared with the one that leaves.
+-- `posts::changes::lowered` meets its contract: the invariant is `Leaving`, the posts passed compared with the one that leaves.
 use mathlib.Core.Path.{_∙_, ap}
 use mathlib.Core.Bool.{Bool, cond}
 use Prim.Native.Nat.{ℕ, _-_}
@@ -10,8 +10,8 @@ use Rattle.posts.proofs.Standing.{place-stands}
 use Rattle.posts.proofs.Moving.{Leaving, leaving-start, leaving-fits, leaving-turn, leaving-end}
 use native.Mathlib.Omega.{arith}
 use borrow.Author.Needs.{needs}
-use Rattle.posts.proofs.upkeep.lowered.Statement.{statement}
-use Rattle.posts.proofs.upkeep.lowered.Tie as tie
+use Rattle.posts.proofs.changes.lowered.Statement.{statement}
+use Rattle.posts.proofs.changes.lowered.Tie as tie
 
 abbrev Inv-loop : tie.InvT-loop
 Inv-loop at year n x ranking₀ i₀ ranking i = Leaving year at ranking i

@@ -1,7 +1,7 @@
--- `posts::year::position_refusal` meets its contract.
+-- `posts::changes::position_refusal` meets its contract.
 use Rattle.posts.proofs.Changing.{position-nought, position-past, position-there}
-use Rattle.posts.proofs.year.position_refusal.Statement.{statement}
-use Rattle.posts.proofs.year.position_refusal.Tie as tie
+use Rattle.posts.proofs.changes.position_refusal.Statement.{statement}
+use Rattle.posts.proofs.changes.position_refusal.Tie as tie
 
 returns : tie.Need-returns
 returns c = position-nought _ _ (c .if1 .taken)
