@@ -2,8 +2,9 @@
 
 use crate::benefits::{after_year, pension_debit, reduced, FinalPay};
 use crate::calendar::{months_before, try_dates, SECTION_PENSION_AGES};
+use crate::changes::join;
 use crate::frames::{frame, line_bytes, lines, Debit, Factor, Frame, Member, LARGEST_TEXT};
-use crate::posts::{aggregate, try_post, Post};
+use crate::posts::{aggregate, Post};
 use crate::roundings::{most_roundings, rounded_up};
 use crate::ten_pays::TenPays;
 use crate::wide::Rounded;
@@ -173,8 +174,7 @@ impl Case {
             }
             Frame::Post(post) => {
                 let year = self.years.last_mut().ok_or(4u64)?;
-                try_post(&year.posts, &post)?;
-                year.posts.push(post);
+                join(&mut year.posts, post)?;
             }
             Frame::FinalPay(final_pay) => {
                 final_pay.tried()?;

@@ -1,13 +1,13 @@
 //! A second working of pension cases, written from document 01 and the landed requests of document
-//! 02: 2.1 to 2.7.
+//! 02: 2.1 to 2.8.
 //!
 //! It shares nothing with the engine and goes another way wherever there is one: posts are sorted
-//! by rate and filled in turn, the aggregate is one exact sum of fractions in wide numbers, months
-//! are counted one by one on a calendar of counted days, pays are annualised by whole pence a day, the
-//! best three years are looked for among the eight sums of three, a rounding has gone up where the
-//! number times the divisor is above what was divided, upward ones are counted over a list of all
-//! roundings that is made after the amounts, and a text is cut into owned lines before any of them is
-//! read.
+//! by rate and filled in turn, afresh after each change of a year, the aggregate is one exact sum of
+//! fractions in wide numbers, months are counted one by one on a calendar of counted days, pays are
+//! annualised by whole pence a day, the best three years are looked for among the eight sums of three,
+//! a rounding has gone up where the number times the divisor is above what was divided, upward ones are
+//! counted over a list of all roundings that is made after the amounts, and a text is cut into owned
+//! lines before any of them is read.
 //!
 //! Its programs: `second` prints the line of a text, as the case program does; `scripts` does the
 //! scripts of the engine's test programs; `rivals` tries rival workings against the engine's amounts;
@@ -25,6 +25,7 @@
 pub mod benefits;
 pub mod calendar;
 pub mod cases;
+pub mod changes;
 pub mod document_01;
 pub mod employers;
 pub mod engine;

@@ -3,40 +3,89 @@
 //! `D LABEL|` birth, retirement, pension age; `C LABEL|` the ten numbers of an 04; `A LABEL|` pension,
 //! earned pension, previous pay, new pay; `E LABEL|` the ten numbers of an 04, old pay and days, new
 //! pay and days, price increase.
+//! Three commands change a year, which is empty at the start: `Y LABEL|` begins an empty one,
+//! `J LABEL|H W P S` has a post join it, `L LABEL|POSITION` has one leave it.
 
 use crate::words::{bytes, command, numbers};
-use second::posts::{Post, MOST_POSTS};
+use second::changes::{join, leave};
+use second::posts::{aggregate_of, parts_of, Post, MOST_POSTS};
 use second::samples::writing::post_records;
+use second::wide::Way;
 use second::{abatement, change_of_employer, charge, months_early, posts, records};
 
 /// The places that there are, of which a command lends the first, and what stands in each.
 const PLACES: usize = 18;
 const UNWRITTEN: u64 = 9;
 
-/// Does a line and gives what it writes.
-pub fn line(line: &str) -> Option<String> {
-    let (letter, label, words) = command(line)?;
-    let given = match letter {
-        "P" => posts_given(&words)?,
-        "R" => return records_lines(label, &words),
-        "B" => bytes_given(&words)?,
-        "D" => dates_given(&words)?,
-        "C" => charge_given(&words)?,
-        "A" => abatement_given(&words)?,
-        "E" => change_given(&words)?,
-        _ => return None,
-    };
-    Some(format!("{label}: {given}\n"))
+/// The posts that the lines so far have left in the year.
+#[derive(Default)]
+pub struct Figures {
+    year: Vec<Post>,
+}
+
+impl Figures {
+    /// Does a line and gives what it writes.
+    pub fn line(&mut self, line: &str) -> Option<String> {
+        let (letter, label, words) = command(line)?;
+        let given = match letter {
+            "P" => posts_given(&words)?,
+            "R" => return records_lines(label, &words),
+            "B" => bytes_given(&words)?,
+            "D" => dates_given(&words)?,
+            "C" => charge_given(&words)?,
+            "A" => abatement_given(&words)?,
+            "E" => change_given(&words)?,
+            "Y" if words == [""] => self.begun(),
+            "J" => self.joined(&words)?,
+            "L" => self.left(&words)?,
+            _ => return None,
+        };
+        Some(format!("{label}: {given}\n"))
+    }
+
+    fn begun(&mut self) -> String {
+        self.year.clear();
+        self.after(Ok(()))
+    }
+
+    fn joined(&mut self, words: &[&str]) -> Option<String> {
+        let post = Post::of(&numbers(words)?.try_into().ok()?);
+        let change = join(&mut self.year, post);
+        Some(self.after(change))
+    }
+
+    fn left(&mut self, words: &[&str]) -> Option<String> {
+        let [position] = numbers(words)?.try_into().ok()?;
+        let change = leave(&mut self.year, position);
+        Some(self.after(change))
+    }
+
+    /// The refusal of a change, and the year after it.
+    fn after(&self, change: Result<(), u64>) -> String {
+        let parts = parts_of(&self.year);
+        let aggregate = aggregate_of(&self.year, &parts);
+        let given = pence((change.err().unwrap_or(0), aggregate.number));
+        let way = match aggregate.way {
+            Way::Exact => "exact",
+            Way::Down => "down",
+            Way::Up => "up",
+        };
+        format!("{given}, {way}; parts{}", in_a_row(&parts))
+    }
 }
 
 fn pence((refusal, amount): (u64, u64)) -> String {
     format!("refusal {refusal}, {amount} pence")
 }
 
+/// Numbers, each after a blank.
+fn in_a_row(list: &[u64]) -> String {
+    list.iter().map(|number| format!(" {number}")).collect()
+}
+
 /// A refusal, an aggregate and the numbers in places.
 fn with_places(given: (u64, u64), places: &[u64]) -> String {
-    let places: String = places.iter().map(|parts| format!(" {parts}")).collect();
-    format!("{}; places{places}", pence(given))
+    format!("{}; places{}", pence(given), in_a_row(places))
 }
 
 /// Some of the places, all unwritten.

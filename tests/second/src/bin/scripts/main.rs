@@ -6,6 +6,7 @@ mod figures;
 mod running;
 mod words;
 
+use figures::Figures;
 use running::Running;
 use std::env;
 use std::io::{self, Read, Write};
@@ -25,7 +26,10 @@ fn written(script: &str, mut write: impl FnMut(&str) -> Option<String>) -> Resul
 /// What a script in one of the two languages writes.
 fn done(language: &str, script: &str) -> Result<String, String> {
     match language {
-        "figures" => written(script, figures::line),
+        "figures" => {
+            let mut figures = Figures::default();
+            written(script, |line| figures.line(line))
+        }
         "running" => {
             let mut running = Running::default();
             written(script, |line| running.line(line))
@@ -99,6 +103,18 @@ mod tests {
             "E x|0 0 0 0 0 0 0 0 0 1 0 1 0 1",
         ];
         assert_unknown("figures", known, &unknown);
+        let unknown = [
+            "Y x",
+            "Y x|0",
+            "J x|1 2 3",
+            "J x|1 2 3 0 0",
+            "J x|1 2 3 18446744073709551616",
+            "L x|",
+            "L x|-1",
+            "L x|1 1",
+            "L x|18446744073709551616",
+        ];
+        assert_unknown("figures", known, &unknown);
     }
 
     /// A 54th of 27 pence goes up; a debit of a penny and a half takes more than that.
@@ -125,6 +141,27 @@ mod tests {
         assert_eq!(done("figures", &script), Ok(lines));
         let script = "B x|2 000300040000001E00000000000300040000000000000024\n";
         assert_eq!(done("figures", script), Ok(format!("x: {given}\n")));
+    }
+
+    /// A penny, then a penny and a half of one; after a refused change the year as it was.
+    #[test]
+    fn a_year_is_changed_line_by_line() {
+        let script = "J first|2 3 1 0\nJ second|2 3 1 0\nL none|3\nP other|1 5 5 5 0\nL one|1\n\
+            J past it|18446744073709551615 3 1 0\nY empty|\nL left|18446744073709551615\n";
+        let lines = "first: refusal 0, 1 pence, exact; parts 4\n\
+            second: refusal 0, 2 pence, up; parts 8 4\n\
+            none: refusal 29, 2 pence, up; parts 8 4\n\
+            other: refusal 0, 5 pence; places 25\n\
+            one: refusal 0, 1 pence, exact; parts 4\n\
+            past it: refusal 7, 1 pence, exact; parts 4\n\
+            empty: refusal 0, 0 pence, exact; parts\n\
+            left: refusal 29, 0 pence, exact; parts\n";
+        assert_eq!(done("figures", script), Ok(lines.to_string()));
+        // A third of a penny is cut off.
+        let script = "J one|3 4 1 0\nJ other|3 4 1 0\n";
+        let lines = "one: refusal 0, 1 pence, exact; parts 9\n\
+            other: refusal 0, 1 pence, down; parts 18 6\n";
+        assert_eq!(done("figures", script), Ok(lines.to_string()));
     }
 
     #[test]
