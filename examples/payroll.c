@@ -1,104 +1,20 @@
 /* A payroll program: the pensionable pay of posts with the hours that count and those left out, a final pay charge, the
  * charges of two employers, and whole cases. Pensions and pays are amounts for a year, but the pays with each of two
  * employers for their days; a lump sum and a charge are paid once. */
-#include <canyonsieve.h>
+#include "posts.h"
 
-#include <inttypes.h>
-#include <stdio.h>
-
-/* Contracted and whole-time minutes of a week, yearly pay and yearly supplement in pence. A supplement is an allowance
- * paid for hours worked, such as unsocial hours; it is not in the pay. */
-struct post {
-    uint16_t contracted;
-    uint16_t whole_time;
-    uint32_t pay;
-    uint32_t supplement;
-};
-
-static void pounds(const char *what, uint64_t pence, const char *how_often)
-{
-    printf("%s: %" PRIu64 ".%02" PRIu64 " pounds, %s\n", what, pence / 100, pence % 100, how_often);
-}
-
-/* Says why a call was refused, with the line of the text where it has one, and whether it was. */
-static int refused(const char *what, uint64_t refusal, uint64_t line)
-{
-    if (refusal == CANYONSIEVE_ACCEPTED)
-        return 0;
-    printf("%s: refusal %" PRIu64, what, refusal);
-    if (line != 0)
-        printf(" at line %" PRIu64, line);
-    printf(": %s\n", canyonsieve_refusal_words(refusal));
-    return 1;
-}
-
-/* Puts a number at the start of bytes, the highest byte first. */
-static uint8_t *put(uint8_t *bytes, uint32_t number, int width)
-{
-    for (int i = width - 1; i >= 0; i--)
-        *bytes++ = (uint8_t)(number >> (8 * i));
-    return bytes;
-}
-
-static uint64_t common_divisor(uint64_t a, uint64_t b)
-{
-    while (b != 0) {
-        uint64_t rest = a % b;
-        a = b;
-        b = rest;
-    }
-    return a;
-}
-
-/* Parts as hours, minutes and the exact fraction of a minute. A minute has as many parts as all posts of the year have
- * contracted minutes together, so the divisor differs from year to year. */
-static void print_time(const char *what, uint64_t parts, uint64_t parts_of_minute)
-{
-    uint64_t minutes = parts / parts_of_minute;
-    uint64_t rest = parts % parts_of_minute;
-    uint64_t divisor = common_divisor(rest, parts_of_minute);
-
-    printf("  %s %2" PRIu64 " h %2" PRIu64, what, minutes / 60, minutes % 60);
-    if (rest != 0)
-        printf(" %" PRIu64 "/%" PRIu64, rest / divisor, parts_of_minute / divisor);
-    printf(" min");
-}
-
-/* The bytes of a post, put at their start; gives their end. */
-static uint8_t *put_post(uint8_t *bytes, struct post post)
-{
-    bytes = put(bytes, post.contracted, 2);
-    bytes = put(bytes, post.whole_time, 2);
-    bytes = put(bytes, post.pay, 4);
-    return put(bytes, post.supplement, 4);
-}
-
-/* The posts of a year: each with its hours that count and those left out, then the pensionable pay. */
+/* The posts of a year, with their title. */
 static int print_year(const char *title, const struct post *posts, size_t count)
 {
-    uint8_t bytes[CANYONSIEVE_MAX_POSTS * CANYONSIEVE_BYTES_OF_POST];
-    uint64_t parts[CANYONSIEVE_MAX_POSTS];
-    uint64_t together = 0;
+    uint8_t bytes[CANYONSIEVE_MAX_POSTS * CANYONSIEVE_BYTES_OF_POST] = {0};
     uint8_t *end = bytes;
 
     if (count > CANYONSIEVE_MAX_POSTS)
         return refused(title, CANYONSIEVE_POST_COUNT, 0);
-    for (size_t i = 0; i < count; i++) {
+    for (size_t i = 0; i < count; i++)
         end = put_post(end, posts[i]);
-        together += posts[i].contracted;
-    }
-    struct canyonsieve_figure pay = canyonsieve_posts(bytes, (size_t)(end - bytes), parts, count);
     printf("%s\n", title);
-    if (refused("pensionable pay", pay.refusal, 0))
-        return 1;
-    for (size_t i = 0; i < count; i++) {
-        printf("post %zu:", i + 1);
-        print_time("counted", parts[i], together);
-        print_time("left out", posts[i].contracted * together - parts[i], together);
-        printf("\n");
-    }
-    pounds("pensionable pay", pay.number, "that year");
-    return 0;
+    return print_posts(bytes, count);
 }
 
 /* The charges for a change of employer in year 2. */
