@@ -104,7 +104,10 @@ enum canyonsieve_refusal {
     CANYONSIEVE_TEN_PAYS = 27,
     /* A member frame whose last byte is not the pension age of its section: 0 without a section, 60 in the 1995, 65 in
      * the 2008. Tried after the whole of 5. */
-    CANYONSIEVE_SECTION_AGE = 28
+    CANYONSIEVE_SECTION_AGE = 28,
+    /* The leaving of a position that holds no post. No call of this header gives it: it is there for code that keeps a
+     * list of posts, as examples/year.c does. */
+    CANYONSIEVE_POSITION = 29
 };
 
 /* A refusal in words, for a message to a person; for a number that is no refusal, words that say so. Never NULL, and
@@ -160,6 +163,8 @@ CANYONSIEVE_CHECKED static inline const char *canyonsieve_refusal_words(uint64_t
         return "ten pays or their days out of range";
     case CANYONSIEVE_SECTION_AGE:
         return "a pension age that is not that of the member's section";
+    case CANYONSIEVE_POSITION:
+        return "a position that holds no post";
     default:
         return "no refusal of this version";
     }
@@ -216,6 +221,11 @@ struct canyonsieve_outcome {
  *
  * Both stay the caller's, and nothing of them is kept. They must not overlap. A pointer may be NULL only
  * where its length or its places are 0.
+ *
+ * Where posts start and stop in the year, call it after each change with the posts that remain, in their order: one
+ * that joins at the end, later ones moved up where one has left. That gives the figures of the year that posts join and
+ * leave inside the engine, which is proved (docs/PROVED.md). H is then that of the posts that remain. Positions are
+ * counted from 1. examples/year.c keeps such a list.
  *
  * Refusals, tried in this order: 23, length is no multiple of 12; 21, more than 16 posts; 22, fewer places than
  * posts; then post by post 7, a post that is out of range, and 8, a second whole-time post. No posts: 0 pence. */

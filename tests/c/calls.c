@@ -291,6 +291,31 @@ static void supplements_refused(void)
     posts_bytes(__LINE__, two, 24, 2, 0, 3600258, parts, 2);
 }
 
+/* Request 2.8: the posts that remain after each change of a year, and the lists with a newcomer that is refused. 29 is
+ * of a position, which this call is not given. */
+static void posts_that_start_and_stop(void)
+{
+    static const struct post lower[] = {{1200, 2250, 1000000, 0}};
+    static const struct post higher[] = {{1200, 2250, 1200000, 0}};
+    static const struct post two[] = {{1200, 2250, 1000000, 0}, {1200, 2250, 1200000, 0}};
+    static const struct post turned[] = {{1200, 2250, 1200000, 0}, {1200, 2250, 1000000, 0}};
+    static const struct post whole[] = {{1200, 2250, 1200000, 0}, {2250, 2250, 2000000, 0}};
+    static const struct post second_whole[] = {{1200, 2250, 1200000, 0}, {2250, 2250, 2000000, 0}, {2250, 2250, 1, 0}};
+    static const struct post past_its_week[] = {{1200, 2250, 1200000, 0}, {2251, 2250, 1, 0}};
+    static const struct post other_whole[] = {{1200, 2250, 1200000, 0}, {2250, 2250, 1, 0}};
+
+    ACCEPTED(lower, 16, 1000000, 1440000);
+    ACCEPTED(two, 16, 2075000, 2520000, 2880000);
+    ACCEPTED(higher, 16, 1200000, 1440000);
+    ACCEPTED(whole, 16, 2000000, 0, 7762500);
+    REFUSED(second_whole, 16, CANYONSIEVE_SECOND_WHOLE_TIME);
+    /* Without the whole-time post another one may join. */
+    ACCEPTED(other_whole, 16, 1, 0, 7762500);
+    REFUSED(past_its_week, 16, CANYONSIEVE_POST);
+    ACCEPTED(turned, 16, 2075000, 2880000, 2520000);
+    posts_bytes(__LINE__, NULL, 0, 16, 0, 0, NULL, 0);
+}
+
 /* Every number of a charge one after the other, replaced in numbers that stand. */
 static void charge_with(int line, unsigned at, uint64_t n, uint64_t refusal, uint64_t number)
 {
@@ -923,14 +948,16 @@ static void most_rounded_up(void)
 /* Each refusal has words of its own, and any other number the same words. */
 static void words(void)
 {
-    static const uint64_t others[] = {15, 20, 29, 255, (UINT64_C(1) << 32) + 7, UINT64_MAX};
+    static const uint64_t others[] = {15, 20, 30, 255, (UINT64_C(1) << 32) + 7, UINT64_MAX};
     const char *none = canyonsieve_refusal_words(UINT64_C(1) << 40);
 
     same(__LINE__, "7 names the supplement", strstr(canyonsieve_refusal_words(7), "supplement") != NULL, 1);
     same(__LINE__, "23 names 12 bytes", strstr(canyonsieve_refusal_words(23), "multiple of 12") != NULL, 1);
     same(__LINE__, "refusal of ten pays", CANYONSIEVE_TEN_PAYS, 27);
     same(__LINE__, "refusal of a section's pension age", CANYONSIEVE_SECTION_AGE, 28);
-    for (uint64_t n = 0; n <= CANYONSIEVE_SECTION_AGE; n++) {
+    same(__LINE__, "refusal of a position", CANYONSIEVE_POSITION, 29);
+    same(__LINE__, "29 names a position", strstr(canyonsieve_refusal_words(29), "position that holds") != NULL, 1);
+    for (uint64_t n = 0; n <= CANYONSIEVE_POSITION; n++) {
         int is_refusal = n <= CANYONSIEVE_DEBIT_ABOVE || n >= CANYONSIEVE_POST_COUNT;
         same(__LINE__, "words of its own", strcmp(canyonsieve_refusal_words(n), none) != 0, (uint64_t)is_refusal);
         for (uint64_t m = 0; is_refusal && m < n; m++)
@@ -987,6 +1014,7 @@ int main(void)
     supplements();
     large_supplements();
     supplements_refused();
+    posts_that_start_and_stop();
     charges();
     changes_of_employer();
     changes_refused();

@@ -59,6 +59,7 @@ static void posts(const uint8_t *bytes, size_t length, uint64_t *places, size_t 
     struct canyonsieve_figure f = canyonsieve_posts(bytes, length, places, many);
     figure(f);
     claim(f.number <= MOST_PAY);
+    claim(f.refusal == 0 || f.refusal == 7 || f.refusal == 8 || (f.refusal >= 21 && f.refusal <= 23));
     claim(length % CANYONSIEVE_BYTES_OF_POST == 0 || f.refusal == CANYONSIEVE_POSTS_LENGTH);
     for (size_t i = f.refusal == 0 ? length / CANYONSIEVE_BYTES_OF_POST : 0; i < many; i++)
         claim(places[i] == 7 * i + 1);
