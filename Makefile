@@ -27,9 +27,11 @@ library:
 program:
 	rt check case_program
 
-# The header by itself and the payroll program, read by C and C++ compilers.
-C_FILES = -include $(HEADER) -Iinclude -x c /dev/null examples/payroll.c
-CXX_FILES = -include $(HEADER) -Iinclude -x c++ /dev/null examples/payroll.c
+# The header by itself and the payroll programs, read by C and C++ compilers.
+PAYROLL = payroll year
+PAYROLL_FILES = $(PAYROLL:%=examples/%.c)
+C_FILES = -include $(HEADER) -Iinclude -x c /dev/null $(PAYROLL_FILES)
+CXX_FILES = -include $(HEADER) -Iinclude -x c++ /dev/null $(PAYROLL_FILES)
 header:
 	$(CC) -std=c99 $(STRICT) -fsyntax-only $(C_FILES)
 	$(CC) -std=c11 $(STRICT) -fsyntax-only $(C_FILES)
@@ -72,19 +74,21 @@ memcheck: c-test
 examples: program
 	for text in examples/*.txt; do $(PROGRAM) < $$text | cmp - $${text%.txt}.line || exit 1; done
 
-# The payroll program from installed files alone, by the flags that pkg-config gives, in C and in C++; then uninstalled.
+# The payroll programs from installed files alone, by the flags that pkg-config gives, in C and C++; then uninstalled.
 payroll: export PKG_CONFIG_PATH = $(STAGE)/lib/pkgconfig
 payroll: library program
 	rm -rf "$(STAGE)"
 	$(MAKE) install DESTDIR= PREFIX="$(STAGE)"
 	test "$$(pkg-config --modversion canyonsieve)" = "$(VERSION)"
 	mkdir -p target/c
-	eval "$(CC) -std=c99 $(STRICT) $(CFLAGS) examples/payroll.c \
-		$$(pkg-config --cflags --libs canyonsieve) -o target/c/payroll"
-	target/c/payroll | cmp - examples/payroll.out
-	eval "$(CXX) -std=c++17 $(STRICT) $(CFLAGS) -x c++ examples/payroll.c -x none \
-		$$(pkg-config --cflags --libs canyonsieve) -o target/c/payroll"
-	target/c/payroll | cmp - examples/payroll.out
+	for program in $(PAYROLL); do \
+	    for compiler in "$(CC) -std=c99 -x c" "$(CXX) -std=c++17 -x c++"; do \
+	        eval "$$compiler $(STRICT) $(CFLAGS) examples/$$program.c -x none \
+	            $$(pkg-config --cflags --libs canyonsieve) -o target/c/$$program" || exit 1; \
+	        target/c/$$program > target/c/$$program.out || exit 1; \
+	        cmp target/c/$$program.out examples/$$program.out || exit 1; \
+	    done; \
+	done
 	"$(STAGE)/bin/canyonsieve-case" < examples/printed.txt | cmp - examples/printed.line
 	$(MAKE) uninstall DESTDIR= PREFIX="$(STAGE)"
 	test -z "$$(find "$(STAGE)" -type f)"
