@@ -2,7 +2,10 @@
 use measures::Answer;
 use measures::AnswerOfTwo;
 use measures::Pence;
+use measures::Way;
+ghost use Prim.Native.Nat.{_≤_};
 ghost use mathlib.Core.Path.{_≡_};
+ghost use lib.ListN.{length};
 ghost use lib.IntN.{natAbs};
 
 // Writes a text and a number.
@@ -29,6 +32,34 @@ pub fn answer(label: &[u8], given: Answer) {
     match given {
         Answer::Amount(amount) => pence(label, 0, amount),
         Answer::Refused(refusal) => pence(label, refusal, Pence(0)),
+    }
+}
+
+// Writes a label, a refusal, an amount and which way it was rounded.
+pub fn rounded_pence(label: &[u8], refusal: u64, amount: Pence, way: Way) {
+    pence(label, refusal, amount);
+    match way {
+        Way::Exact => {
+            io::write_all(1, b", exact");
+        }
+        Way::Down => {
+            io::write_all(1, b", down");
+        }
+        Way::Up => {
+            io::write_all(1, b", up");
+        }
+    }
+}
+
+// Writes a text and the first n numbers of a list.
+pub fn list(text: &[u8], numbers: &[u64], n: usize)
+    requires { ⌜ n ≤ length (now numbers) ⌝ }
+{
+    io::write_all(1, text);
+    let mut i: usize = 0;
+    while i < n {
+        number(b" ", numbers[i]);
+        i += 1;
     }
 }
 

@@ -11,14 +11,14 @@ use posts::Post;
 use posts::TOO_MANY_POSTS;
 use posts::posts_call;
 use records::records_front_call;
-ghost use Prim.Native.Nat.{_%_, _≤_, _<_};
+ghost use Prim.Native.Nat.{_+_, _%_, _≤_, _<_};
 ghost use mathlib.Core.Path.{_≡_};
-ghost use lib.ListN.{drop};
+ghost use lib.ListN.{length, drop};
 ghost use Rattle.figures.specs.Posts.{postFrom, postsOfNumbers};
 
 // The post whose h, w, p and s are the numbers from a place on.
-fn post(n: &[u64; 69], at: usize) -> Post
-    requires { ⌜ at < 66 ⌝ }
+pub fn post(n: &[u64], at: usize) -> Post
+    requires { ⌜ at + 3 < length (now n) ⌝ }
     ensures { λ r. ⌜ r ≡ postFrom (now (n .entry)) at ⌝ }
 {
     Post {
@@ -54,12 +54,7 @@ fn lent_places(n: u64) -> usize
 fn places(list: &[u64; 18], lent: usize)
     requires { ⌜ lent ≤ 18 ⌝ }
 {
-    io::write_all(1, b"; places");
-    let mut i: usize = 0;
-    while i < lent {
-        lines::number(b" ", list[i]);
-        i += 1;
-    }
+    lines::list(b"; places", list, lent);
 }
 
 // The posts call on bytes with n places lent.

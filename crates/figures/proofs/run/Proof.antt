@@ -2,18 +2,22 @@
 use Prim.Native.Nat.{_-_}
 use lib.ListN.{length}
 use native.Mathlib.Omega.{arith}
+use Rattle.posts.specs.Year.{Held}
 use borrow.Author.Needs.{needs}
 use Rattle.figures.proofs.run.Statement.{statement}
 use Rattle.figures.proofs.run.Tie as tie
 
 abbrev Inv-loop : tie.InvT-loop
-Inv-loop script at₀ t4 at = Unit
+Inv-loop script year₀ at₀ t5 year at = Held year
 
 abbrev μ-loop : tie.MeasureT-loop
-μ-loop script at₀ t4 at = length script - at
+μ-loop script year₀ at₀ t5 year at = length script - at
+
+none-requires : tie.Need-none-requires Inv-loop μ-loop
+none-requires c κs = search needs
 
 loop-holds : tie.Need-loop-holds Inv-loop μ-loop
-loop-holds c = tt
+loop-holds c = c .none .ensures .1
 
 end-at-requires : tie.Need-end-at-requires Inv-loop μ-loop
 end-at-requires c κs = omega arith
@@ -43,7 +47,7 @@ loop-less : tie.Need-loop-less Inv-loop μ-loop
 loop-less c = omega arith
 
 loop-again : tie.Need-loop-again Inv-loop μ-loop
-loop-again c = tt
+loop-again c = c .before .before .line .ensures .held
 
 returns : tie.Need-returns Inv-loop μ-loop
 returns c = search needs
@@ -54,6 +58,7 @@ run-spec =
     (tie.spec
     Inv-loop
     μ-loop
+    none-requires
     loop-holds
     end-at-requires
     sub-line

@@ -2,6 +2,7 @@
 use Prim.Native.Nat.{_-_}
 use mathlib.Core.Path.{refl}
 use native.Mathlib.Omega.{arith}
+use borrow.Author.Needs.{needs}
 use Rattle.posts.specs.Limits.{tooManyPosts}
 use Rattle.figures.proofs.Numbers.{Reading, post-more, posts-all}
 use Rattle.figures.proofs.years.posts_in.Statement.{statement}
@@ -13,11 +14,17 @@ Inv-loop numbers list₀ i₀ list i = Reading numbers list i
 abbrev μ-loop : tie.MeasureT-loop
 μ-loop numbers list₀ i₀ list i = tooManyPosts - i
 
+slice-aggregate-post : tie.Need-slice-aggregate-post Inv-loop μ-loop
+slice-aggregate-post c = search needs
+
 post-requires : tie.Need-post-requires Inv-loop μ-loop
 post-requires c κs = omega arith
 
 loop-holds : tie.Need-loop-holds Inv-loop μ-loop
 loop-holds c = record { few = omega arith; room = refl; is = refl }
+
+slice-aggregate-post-2 : tie.Need-slice-aggregate-post-2 Inv-loop μ-loop
+slice-aggregate-post-2 c = search needs
 
 mul-post : tie.Need-mul-post Inv-loop μ-loop
 mul-post c = omega arith
@@ -54,8 +61,10 @@ posts-in-spec =
     (tie.spec
     Inv-loop
     μ-loop
+    slice-aggregate-post
     post-requires
     loop-holds
+    slice-aggregate-post-2
     mul-post
     add-post
     post-requires-2

@@ -1,18 +1,15 @@
--- `figures::years::places` ends: one place fewer is left at each turn.
+-- `figures::lines::list` ends: one number fewer is left at each turn.
 use Prim.Native.Nat.{_-_}
 use native.Mathlib.Omega.{arith}
 use borrow.Author.Needs.{needs}
-use Rattle.figures.proofs.years.places.Statement.{statement}
-use Rattle.figures.proofs.years.places.Tie as tie
+use Rattle.figures.proofs.lines.list.Statement.{statement}
+use Rattle.figures.proofs.lines.list.Tie as tie
 
 abbrev Inv-loop : tie.InvT-loop
-Inv-loop list lent i₀ t5 i = Unit
+Inv-loop text numbers n i₀ t5 i = Unit
 
 abbrev μ-loop : tie.MeasureT-loop
-μ-loop list lent i₀ t5 i = lent - i
-
-slice-aggregate-write-all : tie.Need-slice-aggregate-write-all Inv-loop μ-loop
-slice-aggregate-write-all c = search needs
+μ-loop text numbers n i₀ t5 i = n - i
 
 write-all-requires : tie.Need-write-all-requires Inv-loop μ-loop
 write-all-requires c κs = search needs
@@ -26,8 +23,8 @@ slice-aggregate-number c = search needs
 mul-number : tie.Need-mul-number Inv-loop μ-loop
 mul-number c = omega arith
 
-element-copy-out-number : tie.Need-element-copy-out-number Inv-loop μ-loop
-element-copy-out-number c = omega arith
+shared-slice-read-number : tie.Need-shared-slice-read-number Inv-loop μ-loop
+shared-slice-read-number c = omega arith
 
 number-requires : tie.Need-number-requires Inv-loop μ-loop
 number-requires c κs = search needs
@@ -44,18 +41,17 @@ loop-again c = tt
 returns : tie.Need-returns Inv-loop μ-loop
 returns c = search needs
 
-pub places-spec : {M : Type 1} → statement M
-places-spec =
+pub list-spec : {M : Type 1} → statement M
+list-spec =
     tie.close
     (tie.spec
     Inv-loop
     μ-loop
-    slice-aggregate-write-all
     write-all-requires
     loop-holds
     slice-aggregate-number
     mul-number
-    element-copy-out-number
+    shared-slice-read-number
     number-requires
     add-i
     loop-less
