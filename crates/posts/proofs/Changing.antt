@@ -64,34 +64,34 @@ module _ (y : YearPosts) (x : Post) (held : Held y) where
 -- ---- a post leaves
 
 module _ (count position : ℕ) where
-  pub position-nought : position < 1 → 29 ≡ positionRefusal count position
+  pub position-there : 0 < position → position ≤ count → 0 ≡ positionRefusal count position
   unfolding positionRefusal
-  position-nought g = rw (lt-leb 1 position g) refl
+  position-there g k = rw (le-leb 1 position g, le-leb position count k) refl
 
-  pub position-past : 1 ≤ position → count < position → 29 ≡ positionRefusal count position
+  pub position-past : 0 < position → count < position → 29 ≡ positionRefusal count position
   unfolding positionRefusal
   position-past g k = rw (le-leb 1 position g, lt-leb position count k) refl
 
-  pub position-there : 1 ≤ position → position ≤ count → 0 ≡ positionRefusal count position
+  pub position-nought : position ≤ 0 → 29 ≡ positionRefusal count position
   unfolding positionRefusal
-  position-there g k = rw (le-leb 1 position g, le-leb position count k) refl
+  position-nought g = rw (lt-leb 1 position (omega arith)) refl
 
   -- a position that is not refused is the place before it, counted from 0
   pub position-place : positionRefusal count position ≡ 0 → (1 ≤ position) × (position ≤ count)
   unfolding positionRefusal
   position-place z = let t = passed _ 29 (omega arith) z in (leb-true 1 position (and-left _ _ t), leb-true position count (and-right (leb 1 position) _ t))
 
-module _ (y : YearPosts) (held : Held y) (position n : ℕ) (e : n ≡ positionRefusal (y .count) position) where
-  among : n ≡ changeRefusal (postsOf y) (leaves position)
+module _ (y : YearPosts) (held : Held y) (position : ℕ) where
+  among : positionRefusal (y .count) position ≡ changeRefusal (postsOf y) (leaves position)
   unfolding changeRefusal
-  among = e ∙ ap (λ (k : ℕ). positionRefusal k position) (sym (posts-count y held))
+  among = ap (λ (k : ℕ). positionRefusal k position) (sym (posts-count y held))
 
-  pub leave-refused : (n ≡ 0 → ⊥) → ChangedBy y (leaves position) (record { year = y; refusal = n })
-  leave-refused f = change-refused y (leaves position) n among held f
+  pub leave-refused : (n : ℕ) → n ≡ positionRefusal (y .count) position → (n ≡ 0 → ⊥) → ChangedBy y (leaves position) (record { year = y; refusal = n })
+  leave-refused n e f = change-refused y (leaves position) n (e ∙ among) held f
 
-  pub leave-made : n ≡ 0 → (r : YearPosts) → Held r → postsOf r ≡ without (position - 1) (postsOf y) → ChangedBy y (leaves position) (record { year = r; refusal = n })
+  pub leave-made : positionRefusal (y .count) position ≡ 0 → (r : YearPosts) → Held r → postsOf r ≡ without (position - 1) (postsOf y) → ChangedBy y (leaves position) (record { year = r; refusal = 0 })
   unfolding changedPosts
-  leave-made z r h f = change-made y (leaves position) n among z r h f
+  leave-made z r h f = change-made y (leaves position) 0 (sym z ∙ among) refl r h f
 
 -- ---- every list of changes
 

@@ -24,13 +24,12 @@ pub fn minutes_if(test: bool, minutes: Minutes) -> Minutes
 pub fn position_refusal(count: usize, position: u64) -> u64
     ensures { λ r. ⌜ r ≡ positionRefusal count position ⌝ }
 {
-    if position < 1 {
-        return 29;
+    if 0 < position {
+        if position <= count as u64 {
+            return 0;
+        }
     }
-    if (count as u64) < position {
-        return 29;
-    }
-    0
+    29
 }
 
 // The ranking without the minutes of the post at a place, which is about to leave.

@@ -280,15 +280,15 @@ impl YearPosts {
         requires { ⌜ Held self ⌝ }
         ensures { λ r. ⌜ ChangedBy self (leaves position) r ⌝ }
     {
-        let refusal = position_refusal(self.count, position);
-        if refusal != 0 {
+        let refused = position_refusal(self.count, position);
+        if refused != 0 {
             return Changed {
                 year: self,
-                refusal,
+                refusal: refused,
             };
         }
         let year = self.left((position - 1) as usize);
-        Changed { year, refusal }
+        Changed { year, refusal: 0 }
     }
 
     // The parts of each post, the aggregate pay, and which way that was rounded.

@@ -28,7 +28,7 @@ left-requires c κs = (c .before .before .pre, omega (arith, there c .0, there c
 returns-2 : tie.Need-returns-2
 returns-2 c =
     let s = c .before .before .before in
-    leave-made (s .args .self) (s .pre) (s .args .position) _ (c .before .before .position-refusal .ensures) (c .before .if1 .left) _ (c .left .ensures .0) (c .left .ensures .1)
+    leave-made (s .args .self) (s .pre) (s .args .position) (sym (c .before .before .position-refusal .ensures) ∙ c .before .if1 .left) _ (c .left .ensures .0) (c .left .ensures .1)
 
 pub leave-spec : {M : Type 1} → statement M
 leave-spec = tie.close (tie.spec position-refusal-requires returns sub-left left-requires returns-2)
