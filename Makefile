@@ -131,9 +131,12 @@ fuzz: library
 	clang -g -O1 -fsanitize=fuzzer,address -Wall -Wextra -Werror -Iinclude tests/fuzz/calls.c $(LIBRARY) -o target/fuzz/calls
 	target/fuzz/calls -max_total_time=$(FUZZ_SECONDS) -max_len=34000 -timeout=10 target/fuzz/corpus
 
-# The time of a case over different texts, beside the twin's. Not part of the gate.
+# The time of a case over different texts, beside the twin's; then of a change of a year beside working its posts afresh,
+# by a library of its own. Not part of the gate.
 bench: library
+	rt staticlib timing
 	$(CARGO) run $(BENCH)
+	$(CARGO) run $(BENCH) --bin changes
 
 clean:
 	rm -rf target

@@ -4,15 +4,11 @@
 //! damaged texts and lists of the second program, texts of the 2008 Section, and lists and texts
 //! with supplements; any difference ends the program. `--compare` stops there.
 
-mod compare;
-mod texts;
-mod timing;
-mod twin;
-
+use bench::texts::{self, KINDS, SIZES};
+use bench::{compare, timing};
 use second::random::Random;
 use std::io;
 use std::process::exit;
-use texts::{KINDS, SIZES};
 
 const SEED: u64 = 0x0002_0150_0001_9950;
 

@@ -1,6 +1,8 @@
-//! Texts and lists of posts drawn from a fixed seed, every one different and none refused; and,
-//! only to be compared, texts of the 2008 Section, and lists and texts with supplements.
+//! Texts, lists of posts and changes of years drawn from a fixed seed, every one different and none
+//! refused; and, only to be compared, texts of the 2008 Section, lists and texts with supplements,
+//! and changes that are refused.
 
+pub mod changes;
 pub mod section_2008;
 pub mod supplements;
 

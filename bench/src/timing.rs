@@ -7,17 +7,23 @@ use std::hint::black_box;
 use std::time::Instant;
 
 /// The rounds that are timed. One before them is not.
-const ROUNDS: usize = 15;
+pub const ROUNDS: usize = 15;
 
 /// The nanoseconds of one input in each round.
-struct Times(Vec<f64>);
+#[derive(Default)]
+pub struct Times(Vec<f64>);
 
 impl Times {
-    fn least(&self) -> f64 {
+    /// Adds those of a round.
+    pub fn add(&mut self, time: f64) {
+        self.0.push(time);
+    }
+
+    pub fn least(&self) -> f64 {
         self.0.iter().copied().fold(f64::INFINITY, f64::min)
     }
 
-    fn median(&self) -> f64 {
+    pub fn median(&self) -> f64 {
         let mut times = self.0.clone();
         times.sort_by(f64::total_cmp);
         times[times.len() / 2]
@@ -25,7 +31,7 @@ impl Times {
 }
 
 /// The nanoseconds of one input in a round over all of them.
-fn round<Answer>(inputs: &[Vec<u8>], mut call: impl FnMut(&[u8]) -> Answer) -> f64 {
+pub fn round<Input, Answer>(inputs: &[Input], mut call: impl FnMut(&Input) -> Answer) -> f64 {
     let start = Instant::now();
     for input in inputs {
         black_box(call(black_box(input)));
@@ -39,18 +45,18 @@ fn rounds<One, Other>(
     mut one: impl FnMut(&[u8]) -> One,
     mut other: impl FnMut(&[u8]) -> Other,
 ) -> (Times, Times) {
-    let (mut times, mut other_times) = (Vec::new(), Vec::new());
-    round(inputs, &mut one);
-    round(inputs, &mut other);
+    let (mut times, mut other_times) = (Times::default(), Times::default());
+    round(inputs, |input| one(input));
+    round(inputs, |input| other(input));
     for _ in 0..ROUNDS {
-        times.push(round(inputs, &mut one));
-        other_times.push(round(inputs, &mut other));
+        times.add(round(inputs, |input| one(input)));
+        other_times.add(round(inputs, |input| other(input)));
     }
-    (Times(times), Times(other_times))
+    (times, other_times)
 }
 
 /// Whole nanoseconds with a comma after the thousands.
-fn in_thousands(time: f64) -> String {
+pub fn in_thousands(time: f64) -> String {
     match time.round() as u64 {
         time @ 0..=999 => time.to_string(),
         time => format!("{},{:03}", time / 1_000, time % 1_000),
@@ -97,8 +103,8 @@ pub fn time_one_text(size: Size, texts: &[Vec<u8>]) {
     print_row(&words, &copies, rounds(&copies, engine::case, twin::case));
 }
 
-/// Times the posts call on the lists of a kind.
-pub fn time_lists(kind: Kind, lists: &[Vec<u8>]) {
+/// The number of posts of a kind, and what they have.
+pub fn words_of(kind: Kind) -> String {
     let agree = match kind.contracts {
         Contracts::Any => "",
         Contracts::Equal => ", all h equal",
@@ -110,7 +116,12 @@ pub fn time_lists(kind: Kind, lists: &[Vec<u8>]) {
     } else {
         ""
     };
-    let words = format!("posts call, {}{agree}{more}", kind.posts);
+    format!("{}{agree}{more}", kind.posts)
+}
+
+/// Times the posts call on the lists of a kind.
+pub fn time_lists(kind: Kind, lists: &[Vec<u8>]) {
+    let words = format!("posts call, {}", words_of(kind));
     let (mut places, mut other_places) = ([0; 16], [0; 16]);
     let times = rounds(
         lists,
