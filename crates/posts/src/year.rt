@@ -32,7 +32,7 @@ ghost use Rattle.posts.specs.Limits.{heaviestWeek, mostMinutes};
 ghost use Rattle.posts.specs.Posts.{h, rateUnder, counted, wholeTime};
 ghost use Rattle.posts.specs.Paid.{eitherWay};
 ghost use Rattle.posts.specs.Refusals.{Stands, postStands, postRefusal};
-ghost use Rattle.posts.specs.Year.{noPosts, postsOf, Held, joinedBy, joining, Allocated};
+ghost use Rattle.posts.specs.Year.{noPosts, postsOf, Held, joining, Allocated};
 ghost use Rattle.posts.specs.Changes.{joins, leaves, without};
 ghost use Rattle.posts.specs.Reached.{ChangedBy};
 
@@ -204,12 +204,20 @@ impl YearPosts {
         0
     }
 
-    // The year that a post has joined at the end, with no refusal. The post is compared once with each of the others: of two, the minutes
-    // of the one that goes first go before the other.
-    fn joined(mut self, x: Post) -> Changed
-        requires { ⌜ Held self × (postRefusal (postsOf self) x ≡ 0) ⌝ }
-        ensures { λ r. ⌜ (r .year ≡ joinedBy self x) × (r .refusal ≡ 0) ⌝ }
+    // Has a post join at the end: 7 and 8 refuse it. It is compared once with each of the others: of two, the minutes of the one that goes
+    // first go before the other.
+    pub fn join(mut self, x: Post) -> Changed
+        requires { ⌜ Held self ⌝ }
+        ensures year { λ r. ⌜ r ≡ joining self x ⌝ }
+        ensures change { λ r. ⌜ ChangedBy self (joins x) r ⌝ }
     {
+        let refusal = self.refusal_of(x);
+        if refusal != 0 {
+            return Changed {
+                year: self,
+                refusal,
+            };
+        }
         let at = self.count;
         let mut ranking = self.ranking;
         let mut before = Minutes(0);
@@ -233,22 +241,6 @@ impl YearPosts {
             year: self,
             refusal: 0,
         }
-    }
-
-    // Has a post join at the end: 7 and 8 refuse it.
-    pub fn join(self, x: Post) -> Changed
-        requires { ⌜ Held self ⌝ }
-        ensures year { λ r. ⌜ r ≡ joining self x ⌝ }
-        ensures change { λ r. ⌜ ChangedBy self (joins x) r ⌝ }
-    {
-        let refusal = self.refusal_of(x);
-        if refusal != 0 {
-            return Changed {
-                year: self,
-                refusal,
-            };
-        }
-        self.joined(x)
     }
 
     // The year that the post at a place has left, later ones moving up.
