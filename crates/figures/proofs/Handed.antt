@@ -4,7 +4,7 @@ use mathlib.Core.Path.{_≡_, refl, sym, ap, _∙_, subst}
 use mathlib.Core.List.{List, [], _∷_, _++_}
 use mathlib.Core.Logic.{⊎-elim}
 use native.Mathlib.Omega.{arith}
-use native.Mathlib.Nat.{min-eq-right, min-le-left, min-le-right}
+use native.Mathlib.Nat.{min-le-right}
 use lib.ListN.{length, getD, take, drop, replicate, length-drop, List·getD-append, List·getD-eq-default}
 use lib.Seq.{take-all, length-take-le, getD-take, getD-drop, getD-append-add}
 use borrow.Author.Tests.{ne-eqb}

@@ -11,7 +11,7 @@ use Rattle.posts.specs.declared.Comparison.{Comparison}
 use Rattle.posts.specs.Posts.{postOf, parts, counted, countedTogether, aggregatePay, aggregateWay, aggregate}
 use Rattle.posts.specs.Refusals.{postStands, postRefusal}
 use Rattle.posts.specs.Rates.{comparison}
-use Rattle.posts.specs.Changes.{Change, joins, leaves, without, positionRefusal, changeRefusal, changedPosts, remaining}
+use Rattle.posts.specs.Changes.{joins, leaves, without, positionRefusal, changeRefusal, changedPosts, remaining}
 
 abbrev two : Post → Post → List Post
 two x y = x ∷ y ∷ []

@@ -1,7 +1,7 @@
 -- The minutes that a year holds for its posts are their ranking: a post goes before another exactly where it has fewer of them.
 use mathlib.Core.Path.{_≡_, refl, sym, _∙_, ap}
 use mathlib.Core.Bool.{Bool, true, false}
-use mathlib.Core.List.{List, [], _∷_}
+use mathlib.Core.List.{List}
 use mathlib.Core.Logic.{⊎-elim}
 use Prim.Native.Nat.{ℕ, suc, _+_, _*_, _≤_, _<_}
 use native.Mathlib.Nat.{le-of-mul-le-mul-right}
@@ -14,11 +14,11 @@ use Rattle.measures.proofs.Lists.{all-at}
 use Rattle.measures.proofs.Tests.{le-or-lt}
 use Rattle.posts.specs.declared.Post.{Post}
 use Rattle.posts.specs.declared.YearPosts.{YearPosts}
-use Rattle.posts.specs.Division.{Claim, claimAt, higherRanked, ahead}
+use Rattle.posts.specs.Division.{Claim, higherRanked, ahead}
 use Rattle.posts.specs.Posts.{h, contractedMinutes, claims}
 use Rattle.posts.specs.Refusals.{Stands}
 use Rattle.posts.specs.Rates.{minutesAhead}
-use Rattle.posts.specs.Year.{noPost, minutesBefore, postsOf, Held, HoldsRanking}
+use Rattle.posts.specs.Year.{noPost, postsOf, Held, HoldsRanking}
 use Rattle.posts.proofs.Aggregate.{rated}
 use Rattle.posts.proofs.Ranking.{before, goes-before, one-before}
 use Rattle.posts.proofs.Standing.{standing, stand-worked, minutes-pos, posts-count}

@@ -1,6 +1,5 @@
 -- `figures::changes::changed` hands back the year after the command, by its byte.
 use mathlib.Core.Path.{sym, _∙_, subst}
-use Rattle.posts.specs.declared.YearPosts.{YearPosts}
 use Rattle.posts.specs.declared.Post.{Post}
 use Rattle.posts.specs.Changes.{joins}
 use Rattle.posts.specs.Year.{Held}

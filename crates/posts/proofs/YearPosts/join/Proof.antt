@@ -1,6 +1,6 @@
 -- `posts::YearPosts::join` meets its contract: the invariant is `Entering`, the posts passed compared with the one that joins.
 use mathlib.Core.Path.{_≡_, refl, sym, _∙_, ap}
-use mathlib.Core.Bool.{Bool, not, cond}
+use mathlib.Core.Bool.{not}
 use Prim.Native.Nat.{ℕ, _-_, _+_}
 use lib.ListN.{getD}
 use Rattle.posts.specs.Posts.{h}
