@@ -161,7 +161,7 @@ weighted-week-requires : tie.Need-weighted-week-requires Inv-loop μ-loop
 weighted-week-requires c κs =
     let e = c .before .before .before .before .before in
     let s = e .before .before in
-    (minutes-within (s .args .x) (stands e), standing (s .args .x) (stands e) .week)
+    (omega (arith, minutes-within (s .args .x) (stands e)), standing (s .args .x) (stands e) .week)
 
 add-self-3 : tie.Need-add-self-3 Inv-loop μ-loop
 add-self-3 c =

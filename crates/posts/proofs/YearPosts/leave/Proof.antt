@@ -20,7 +20,7 @@ there : (c : tie.Else1) → (1 ≤ c .before .before .args .position) × (c .bef
 there c = position-place _ _ (sym (c .before .position-refusal .ensures) ∙ c .if1 .left)
 
 sub-left : tie.Need-sub-left
-sub-left c = there c .0
+sub-left c = omega (arith, there c .0)
 
 left-requires : tie.Need-left-requires
 left-requires c κs = (c .before .before .pre, omega (arith, there c .0, there c .1))

@@ -1,5 +1,5 @@
 -- `posts::changes::moved_up` meets its contract: the invariant is `MovedUp`, of the posts and of their ranking.
-use Prim.Native.Nat.{_-_}
+use Prim.Native.Nat.{_+_, _-_, _<_}
 use Rattle.posts.specs.Year.{noPost, noMinutes}
 use Rattle.posts.proofs.Moving.{MovedUp, moved-start, moved-turn, moved-end}
 use native.Mathlib.Omega.{arith}
@@ -62,7 +62,7 @@ loop-again : tie.Need-loop-again Inv-loop μ-loop
 loop-again c =
     let l = c .before .before .before in
     let s = l .before in
-    let g = c .before .before .loop-test .taken in (
+    let g : l .loop .i + 1 < s .args .n = omega (arith, c .before .before .loop-test .taken) in (
       moved-turn noPost _ (s .args .at) (s .args .n) (s .pre .0) (omega (arith, s .pre .1)) _ (l .loop .i) (l .loop .inv .0) g,
       moved-turn noMinutes _ (s .args .at) (s .args .n) (s .pre .0) (omega (arith, s .pre .1)) _ (l .loop .i) (l .loop .inv .1) g,
     )
@@ -71,8 +71,8 @@ returns : tie.Need-returns Inv-loop μ-loop
 returns c =
     let l = c .before in
     let s = l .before in (
-      moved-end noPost _ (s .args .at) (s .args .n) (s .pre .0) (omega (arith, s .pre .1)) (omega arith) _ (l .loop .i) (l .loop .inv .0) (c .loop-test .left),
-      moved-end noMinutes _ (s .args .at) (s .args .n) (s .pre .0) (omega (arith, s .pre .1)) (omega arith) _ (l .loop .i) (l .loop .inv .1) (c .loop-test .left),
+      moved-end noPost _ (s .args .at) (s .args .n) (s .pre .0) (omega (arith, s .pre .1)) (omega arith) _ (l .loop .i) (l .loop .inv .0) (omega (arith, c .loop-test .left)),
+      moved-end noMinutes _ (s .args .at) (s .args .n) (s .pre .0) (omega (arith, s .pre .1)) (omega arith) _ (l .loop .i) (l .loop .inv .1) (omega (arith, c .loop-test .left)),
     )
 
 pub moved-up-spec : {M : Type 1} → statement M
