@@ -29,10 +29,10 @@ extern "C" {
 
 /* The version of this interface. It is raised by one when a function is added, when a struct or a frame changes, and
  * when a kind of frame is added. Code that was written for one version asks for it:
- *     #if CANYONSIEVE_VERSION != 8
+ *     #if CANYONSIEVE_VERSION != 7
  *     #error "another version of canyonsieve.h"
  *     #endif */
-#define CANYONSIEVE_VERSION 8
+#define CANYONSIEVE_VERSION 7
 
 /* The limits. */
 #define CANYONSIEVE_MAX_POSTS 16         /* posts of a year */
@@ -202,66 +202,6 @@ struct canyonsieve_outcome {
     uint64_t rounded_up;   /* how many of the amounts on the way were rounded up; 0 when refused */
 };
 
-/* Which way a number was rounded. */
-enum canyonsieve_way {
-    CANYONSIEVE_EXACT = 0, /* the number was exact, or no step rounds it */
-    CANYONSIEVE_DOWN = 1,
-    CANYONSIEVE_UP = 2 /* a half among it */
-};
-
-/* A number that a step rounds, in pence, and which way it went (enum canyonsieve_way). */
-struct canyonsieve_rounded {
-    uint64_t number;
-    uint64_t way;
-};
-
-/* A year of a case: what it adds to the 2015 pension. */
-struct canyonsieve_year_steps {
-    struct canyonsieve_rounded aggregate; /* its pensionable pay: the aggregate of its posts */
-    struct canyonsieve_rounded revalued;  /* the pension of the years before it, revalued by this year's revaluation */
-    struct canyonsieve_rounded accrued;   /* a 54th of the aggregate */
-    uint64_t pension;                     /* the pension after the year: the two before this together */
-};
-
-/* A pension or a lump sum, from what was earned to the net. */
-struct canyonsieve_benefit_steps {
-    struct canyonsieve_rounded earned;  /* before any reduction */
-    uint64_t factor;                    /* that it is reduced by, in thousandths; 0 where nothing is reduced */
-    struct canyonsieve_rounded reduced; /* after the reduction; as earned where nothing is reduced */
-    struct canyonsieve_rounded debit;   /* its Scheme Pays debit */
-    uint64_t net;                       /* reduced less debit */
-};
-
-/* The employer's final pay charge, step by step; noughts but in the 1995 Section. */
-struct canyonsieve_charge_steps {
-    struct canyonsieve_rounded allowed3; /* the allowed pay of year 3 */
-    struct canyonsieve_rounded allowed2;
-    struct canyonsieve_rounded allowed1;
-    uint64_t excess;                    /* final pay less the allowed pay of its year, not below 0 */
-    struct canyonsieve_rounded pension; /* the excess pension */
-    struct canyonsieve_rounded product; /* the excess pension times the factor */
-    uint64_t lump_sum;                  /* three times the excess pension */
-    uint64_t charge;                    /* the two before this together */
-};
-
-/* Every step of a case: a refusal, 0 for none, with its line, and beside it the numbers, all 0 when refused. Amounts
- * are in pence. The roundings that went up number rounded_up. */
-struct canyonsieve_sheet {
-    uint64_t refusal;
-    uint64_t line;
-    int64_t months_2015; /* months early in the 2015 Scheme, below 0 for months late */
-    int64_t months_1995; /* the same in the member's section, 0 without one */
-    struct canyonsieve_benefit_steps pension_2015; /* its earned is the pension of the last year */
-    struct canyonsieve_rounded pay; /* the section's pay: final pay, or in the 2008 Section the average of three years */
-    uint64_t pay_year;              /* its year, 1 being the last; of the average the last of its three years */
-    struct canyonsieve_benefit_steps pension_1995; /* of the 1995 or the 2008 Section; noughts without one */
-    struct canyonsieve_benefit_steps lump_sum;     /* of the 1995 Section; noughts elsewhere */
-    struct canyonsieve_charge_steps charge;
-    uint64_t rounded_up;
-    uint64_t years;                                            /* how many years there are */
-    struct canyonsieve_year_steps year[CANYONSIEVE_MAX_YEARS]; /* each in its order; noughts behind the last */
-};
-
 /* The pensionable pay of a year with several posts, in pence for that year: the aggregate of the posts, with hours past
  * the weighted week left out where the rate of pay is lowest.
  *
@@ -347,12 +287,6 @@ CANYONSIEVE_CHECKED struct canyonsieve_charges canyonsieve_change_of_employer(
  * It needs under 8 kilobytes of stack, canyonsieve_posts under 6, the other calls under 4, the first call of a process
  * included. */
 CANYONSIEVE_CHECKED struct canyonsieve_outcome canyonsieve_case(const uint8_t *text, size_t length);
-
-/* Every step of a case, for a worksheet: the same text as canyonsieve_case, the same refusals and lines, and of a case
- * that is worked every number on the way. Its nets, its charge and its rounded_up are those of canyonsieve_case.
- *
- * The struct has some 3 kilobytes and is returned by value, so that nothing is lent. */
-CANYONSIEVE_CHECKED struct canyonsieve_sheet canyonsieve_steps(const uint8_t *text, size_t length);
 
 /* Months early: from the age at retirement, in completed months, to pension age. Below 0 for months late.
  *

@@ -9,7 +9,7 @@ use lib.Dec.{leb, ltb}
 use lib.ListN.{length}
 use borrow.Author.Tests.{leb-true}
 use Rattle.measures.specs.Limits.{highest_pay}
-use Rattle.measures.proofs.Rounding.{rounded_bound}
+use Rattle.measures.proofs.Rounding.{rounded_bound, upward_most}
 use Rattle.measures.proofs.Tests.{passed, and_left, and_right, both_sides}
 use Rattle.benefits.specs.Limits.{most_days}
 use Rattle.averages.specs.declared.TenPays.{TenPays}
@@ -84,7 +84,7 @@ average_pay_limit t b = rounded_bound _ highest_pay 3 (omega arith) (best_bound 
 
 pub averaged_bounds : (t : TenPays) → TenPaysBounds t → AveragePayBounds (averaged t)
 unfolding averaged
-averaged_bounds t b = record { pay = average_pay_limit t b; days = b.days }
+averaged_bounds t b = record { pay = average_pay_limit t b; days = b.days; ups = upward_most (average_way t) }
 
 -- ---- the pension: 16,425 days of 21,900 are three quarters
 

@@ -1,7 +1,7 @@
 -- Request 2.4, "2008 Section members": the pay of the section and its pension. Amounts are in pence.
 use Rattle.std.specs.Prelude.{ℕ, ◌+◌, ◌*◌, Bool, true, ◌&&◌, cond, List, [], ◌∷◌, map, leb, ltb, length}
 use Rattle.measures.specs.Limits.{highest_pay}
-use Rattle.measures.specs.Rounding.{rounded, way}
+use Rattle.measures.specs.Rounding.{rounded, way, upward}
 use Rattle.measures.specs.Refusals.{unless}
 use Rattle.measures.specs.declared.Way.{Way}
 use Rattle.benefits.specs.Limits.{most_days}
@@ -60,9 +60,9 @@ average_way t = way (best_three t).sum.0 3
 abbrev pub averages : TenPays → List ℕ
 averages t = map average (threes (pays_of t))
 
--- what a case holds: the pay with its way, the year in which its three years end, and the days
+-- what a case holds: the pay, the year in which its three years end, the days, and 1 where the pay was rounded up
 unfoldable pub averaged : TenPays → AveragePay
-averaged t = record { pay = record { amount = record { 0 = average_pay t }; way = average_way t }; year = (best_three t).year; days = t.days }
+averaged t = record { pay = record { 0 = average_pay t }; year = (best_three t).year; days = t.days; ups = upward (average_way t) }
 
 -- ---- The pension
 

@@ -21,5 +21,6 @@ pub record TenPaysBounds (t : TenPays) : Type 0 where
 
 -- what a case holds of them
 pub record AveragePayBounds (a : AveragePay) : Type 0 where
-  pub pay : a.pay.amount.0 ≤ highest_pay
+  pub pay : a.pay.0 ≤ highest_pay
   pub days : a.days ≤ most_days
+  pub ups : a.ups ≤ 1

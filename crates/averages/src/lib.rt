@@ -6,7 +6,7 @@ ghost use Rattle.averages.specs.Averages.{three, better, best_three, averaged, p
 ghost use Rattle.averages.specs.Bounds.{TenPaysBounds};
 
 use benefits::MOST_DAYS;
-use measures::{HIGHEST_PAY, Pence, Stepped, in_pence, rounded, scaled};
+use measures::{HIGHEST_PAY, Pence, Stepped, in_pence, rounded, scaled, upward};
 
 // The days of service that earn a 2008 pension of the whole pay.
 const FULL_SERVICE: u64 = 21900;
@@ -34,13 +34,14 @@ pub struct Three {
     pub year: u64,
 }
 
-// What a case holds of ten pays: their average pay with the way that it was rounded, the year in which its three years
-// end, and the service days.
+// What a case holds of ten pays: their average pay, the year in which its three years end, the service days,
+// and 1 where the average was rounded up, else 0.
 #[derive(Drop)]
 pub struct AveragePay {
-    pub pay: Stepped,
+    pub pay: Pence,
     pub year: u64,
     pub days: u64,
+    pub ups: u64,
 }
 
 // The pays of three years together, with the last of these years.
@@ -85,11 +86,13 @@ pub fn averaged(t: TenPays) -> AveragePay
     ensures { result ≡ averaged t }
 {
     let best = best_three(t);
-    let pay = in_pence(rounded(best.sum.0, 3));
+    let average = rounded(best.sum.0, 3);
+    let way = average.way;
     AveragePay {
-        pay,
+        pay: Pence(average.number),
         year: best.year,
         days: t.days,
+        ups: upward(way),
     }
 }
 

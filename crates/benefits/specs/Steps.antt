@@ -7,16 +7,9 @@ use Rattle.measures.specs.Refusals.{within, unless, first_refusal}
 use Rattle.measures.specs.Answers.{answer_with}
 use Rattle.measures.specs.declared.Answer.{Answer}
 use Rattle.measures.specs.declared.Way.{Way}
-use Rattle.measures.specs.declared.Stepped.{Stepped}
 use Rattle.benefits.specs.declared.FinalPay.{FinalPay}
 use Rattle.benefits.specs.declared.BestPay.{BestPay}
-use Rattle.benefits.specs.declared.YearPension.{YearPension}
-use Rattle.benefits.specs.declared.ExcessSteps.{ExcessSteps}
 use Rattle.benefits.specs.Limits.{highest_allowance, most_days, highest_charge_factor, highest_amount}
-
--- an amount with the way that it was rounded
-abbrev pub stepped : ℕ → Way → Stepped
-stepped amount way = record { amount = record { 0 = amount }; way = way }
 
 -- ---- Years
 
@@ -39,15 +32,6 @@ accrued_way aggregate = way aggregate 54
 -- "For each year in order it becomes rounded(pension × (10,000 + r)/10,000) + rounded(aggregate/54)"
 unfoldable pub after_year : ℕ → ℕ → ℕ → ℕ
 after_year pension r aggregate = revalued pension r + accrued aggregate
-
--- both with what they come to
-unfoldable pub year_pension : ℕ → ℕ → ℕ → YearPension
-year_pension pension r aggregate =
-    record {
-      revalued = stepped (revalued pension r) (revalued_way pension r);
-      accrued = stepped (accrued aggregate) (accrued_way aggregate);
-      pension = record { 0 = after_year pension r aggregate };
-    }
 
 -- how many of both went up
 unfoldable pub after_year_ups : ℕ → ℕ → ℕ → ℕ
@@ -193,26 +177,13 @@ excess_pension over days = section_pension over days
 unfoldable pub excess_pension_way : ℕ → ℕ → Way
 excess_pension_way over days = section_pension_way over days
 
--- "rounded(excess pension × factor/100)"
-abbrev pub charge_product : ℕ → ℕ → ℕ → ℕ
-charge_product over days factor = rounded (excess_pension over days * factor) 100
-
 -- "Charge = rounded(excess pension × factor/100) + 3 × excess pension."
 unfoldable pub charge_from : ℕ → ℕ → ℕ → ℕ
-charge_from over days factor = charge_product over days factor + lump_times * excess_pension over days
+charge_from over days factor = rounded (excess_pension over days * factor) 100 + lump_times * excess_pension over days
 
 -- its one rounding, that of the product
 unfoldable pub charge_product_way : ℕ → ℕ → ℕ → Way
 charge_product_way over days factor = way (excess_pension over days * factor) 100
-
--- the excess pension, the product and 3 × the excess pension
-unfoldable pub excess_steps : ℕ → ℕ → ℕ → ExcessSteps
-excess_steps over days factor =
-    record {
-      pension = stepped (excess_pension over days) (excess_pension_way over days);
-      product = stepped (charge_product over days factor) (charge_product_way over days factor);
-      lump_sum = record { 0 = lump_sum (excess_pension over days) };
-    }
 
 -- how many of both went up: the excess pension's and the product's
 unfoldable pub charge_from_ups : ℕ → ℕ → ℕ → ℕ

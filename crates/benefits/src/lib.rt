@@ -4,7 +4,7 @@ ghost use Rattle.measures.specs.Limits.{highest_pay, highest_aggregate};
 ghost use Rattle.measures.specs.Rounding.{upward};
 ghost use Rattle.measures.specs.Answers.{answer_refusal, answer_amount, number_unless};
 ghost use Rattle.benefits.specs.Limits.{highest_revaluation, highest_allowance, most_days, highest_charge_factor, highest_early_factor, highest_pot, highest_amount};
-ghost use Rattle.benefits.specs.Steps.{revalued, revalued_way, accrued, accrued_way, year_pension, after_year, after_year_ups, best_pay, section_pension, section_pension_way, lump_sum, reduced, reduced_way, pension_debit, pension_debit_way, lump_debit, of_year, pay_in, controlled, raised, raised_way, allowance_in, allowed_from, allowed_from_way, allowed3, allowed3_way, allowed2, allowed2_way, allowed1, allowed1_way, allowed_ups, excess, excess_steps, charge_from, charge_from_ups, charge, charge_ups, abatement, pays_within, terms_within, final_pay_refusal, abatement_refusal, charge_answer, abatement_answer};
+ghost use Rattle.benefits.specs.Steps.{revalued, revalued_way, accrued, accrued_way, after_year, after_year_ups, best_pay, section_pension, section_pension_way, lump_sum, reduced, reduced_way, pension_debit, pension_debit_way, lump_debit, of_year, pay_in, controlled, raised, raised_way, allowance_in, allowed_from, allowed_from_way, allowed3, allowed3_way, allowed2, allowed2_way, allowed1, allowed1_way, allowed_ups, excess, charge_from, charge_from_ups, charge, charge_ups, abatement, pays_within, terms_within, final_pay_refusal, abatement_refusal, charge_answer, abatement_answer};
 ghost use Rattle.benefits.specs.Bounds.{FinalPayBounds};
 
 use measures::{
@@ -55,14 +55,6 @@ pub struct FinalPay {
     pub factor: u64,
 }
 
-// What a year makes of the pension: the pension of before revalued, what the year's aggregate earns, and both together.
-#[derive(Drop)]
-pub struct YearPension {
-    pub revalued: Stepped,
-    pub accrued: Stepped,
-    pub pension: Pence,
-}
-
 // Final pay with its year.
 #[derive(Drop)]
 pub struct BestPay {
@@ -76,14 +68,6 @@ pub struct AllowedPays {
     pub year3: Stepped,
     pub year2: Stepped,
     pub year1: Stepped,
-}
-
-// What an excess comes to: the excess pension, that times the factor, and its lump sum.
-#[derive(Drop)]
-pub struct ExcessSteps {
-    pub pension: Stepped,
-    pub product: Stepped,
-    pub lump_sum: Pence,
 }
 
 // The higher of two amounts.
@@ -131,29 +115,14 @@ pub fn accrued(aggregate: Pence) -> Stepped
     in_pence(rounded(aggregate.0, 54))
 }
 
-// The pension after one more year, by its two steps.
-pub fn year_pension(pension: Pence, revaluation: u64, aggregate: Pence) -> YearPension
-    requires { (pension.0 ≤ 2 ^ 50) × (revaluation ≤ highest_revaluation) × (aggregate.0 ≤ highest_aggregate) }
-    ensures { result ≡ year_pension pension.0 revaluation aggregate.0 }
-{
-    let old = revalued(pension, revaluation);
-    let new = accrued(aggregate);
-    YearPension {
-        revalued: old,
-        accrued: new,
-        pension: Pence(old.amount.0 + new.amount.0),
-    }
-}
-
 // The pension after one more year, and how many of its two roundings went up.
 pub fn after_year(pension: Pence, revaluation: u64, aggregate: Pence) -> Counted
     requires { (pension.0 ≤ 2 ^ 50) × (revaluation ≤ highest_revaluation) × (aggregate.0 ≤ highest_aggregate) }
     ensures { (result.amount.0 ≡ after_year pension.0 revaluation aggregate.0) × (result.ups ≡ after_year_ups pension.0 revaluation aggregate.0) }
 {
-    let year = year_pension(pension, revaluation, aggregate);
-    let old = year.revalued;
-    let new = year.accrued;
-    let amount = year.pension;
+    let old = revalued(pension, revaluation);
+    let new = accrued(aggregate);
+    let amount = Pence(old.amount.0 + new.amount.0);
     let old_way = old.way;
     let new_way = new.way;
     let ups = upward_of_two(old_way, new_way);
@@ -345,31 +314,15 @@ pub fn excess(f: FinalPay) -> Counted
     Counted { amount, ups }
 }
 
-// What an excess comes to, by service days and a factor in hundredths.
-pub fn excess_steps(excess: Pence, days: u64, factor: u64) -> ExcessSteps
-    requires { (excess.0 ≤ highest_amount) × (days ≤ most_days) × (factor ≤ highest_charge_factor) }
-    ensures { result ≡ excess_steps excess.0 days factor }
-{
-    let pension = section_pension(excess, days);
-    let lump = lump_sum(pension.amount);
-    let product = in_pence(scaled(pension.amount.0, factor, 100));
-    ExcessSteps {
-        pension,
-        product,
-        lump_sum: lump,
-    }
-}
-
 // The employer's charge for an excess, by service days and a factor in hundredths, and how many of its two roundings went up.
 pub fn charge_from(excess: Pence, days: u64, factor: u64) -> Counted
     requires { (excess.0 ≤ highest_amount) × (days ≤ most_days) × (factor ≤ highest_charge_factor) }
     ensures { (result.amount.0 ≡ charge_from excess.0 days factor) × (result.ups ≡ charge_from_ups excess.0 days factor) }
 {
-    let steps = excess_steps(excess, days, factor);
-    let pension = steps.pension;
-    let product = steps.product;
-    let lump = steps.lump_sum;
-    let amount = Pence(product.amount.0 + lump.0);
+    let pension = section_pension(excess, days);
+    let lump = lump_sum(pension.amount);
+    let product = scaled(pension.amount.0, factor, 100);
+    let amount = Pence(product.number + lump.0);
     let pension_way = pension.way;
     let product_way = product.way;
     let ups = upward_of_two(pension_way, product_way);

@@ -11,7 +11,6 @@ ghost use Rattle.rules.specs.Rules.{kept};
 ghost use Rattle.rules.specs.Working.{amounts_given};
 ghost use Rattle.rules.specs.Rivals.{Largest};
 ghost use Rattle.texts.specs.Text.{frames_of, work_text};
-ghost use Rattle.sheets.specs.Sheet.{sheet_of, NetsOf, ups_in};
 ghost use Rattle.canyonsieve.specs.Results.{final_pay_of, Flat};
 
 use benefits::{FinalPay, abatement_call, charge_call};
@@ -20,7 +19,6 @@ pub use employers::canyonsieve_change_of_employer;
 use measures::{Answer, Pence};
 use posts::posts_call;
 use rules::Outcome;
-use sheets::{Sheet, work_steps};
 use texts::work_text;
 
 // A refusal, 0 for none, and the number beside it, 0 when refused.
@@ -202,14 +200,4 @@ pub extern "C" fn canyonsieve_case(text: &[u8]) -> CaseFigures
     ensures largest { result.refusal ≡ 0 → Largest (kept (frames_of text.now)) (amounts_given (work_text text.now)) }
 {
     case_figures(work_text(text))
-}
-
-// Every step of the case in a text.
-#[unsafe(no_mangle)]
-pub extern "C" fn canyonsieve_steps(text: &[u8]) -> Sheet
-    ensures sheet { result ≡ sheet_of text.now }
-    ensures nets { NetsOf (work_text text.now) result }
-    ensures counted { ups_in result ≡ result.rounded_up }
-{
-    work_steps(text)
 }

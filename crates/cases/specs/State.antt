@@ -22,7 +22,6 @@ use Rattle.factors.specs.Factors.{no_factors, factors_for, factor_fields, with_f
 use Rattle.debits.specs.Debits.{no_debits, debit_fields, with_debit, debits_of, net_of, DebitsBounds}
 use Rattle.cases.specs.declared.Case.{Case}
 use Rattle.cases.specs.declared.Taken.{Taken}
-use Rattle.cases.specs.declared.Parts.{Parts}
 
 -- ---- the case with no frame
 
@@ -135,12 +134,6 @@ taken_decoded c d = record { case = tried refusal_of_case next_of_case c d; refu
 -- "It starts from a case with no frame; each frame is given to the case that the one before handed back"
 unfoldable pub after_all : List Decoded → Case
 after_all ds = after refusal_of_case next_of_case start ds
-
--- ---- what is read off a case
-
--- its parts
-abbrev pub parts_of : Case → Parts
-parts_of c = record { member = c.member; years = c.years; section = c.section; factors = c.factors; debits = c.debits }
 
 -- ---- closing
 

@@ -7,7 +7,6 @@ use years::YearsState;
 
 mod closing;
 mod order;
-mod reading;
 mod taking;
 
 // A running case: the member, the stage that its frames have come to, and what it holds of the frames of each section of document 01.
@@ -20,16 +19,6 @@ pub struct Case {
     section: SectionState,
     factors: FactorsState,
     debits: DebitsState,
-}
-
-// The parts of a case, for those who read its steps off it.
-#[derive(Drop)]
-pub struct Parts {
-    pub member: Member,
-    pub years: YearsState,
-    pub section: SectionState,
-    pub factors: FactorsState,
-    pub debits: DebitsState,
 }
 
 // The case after a frame, and the refusal of the frame, 0 for none.

@@ -12,10 +12,10 @@ use borrow.Author.Tests.{not-false, le-leb}
 use Rattle.measures.specs.Lists.{All}
 use Rattle.measures.specs.Refusals.{unless, first_refusal}
 use Rattle.measures.specs.Rounding.{upward}
-use Rattle.measures.specs.declared.Stepped.{Stepped}
+use Rattle.measures.specs.declared.Counted.{Counted}
 use Rattle.measures.proofs.Rounding.{upward_most}
 use Rattle.measures.proofs.Tests.{both_sides, parts}
-use Rattle.benefits.specs.Steps.{stepped, pension_debit, pension_debit_way, lump_debit}
+use Rattle.benefits.specs.Steps.{pension_debit, pension_debit_way, lump_debit}
 use Rattle.benefits.proofs.Limits.{debit_limit}
 use Rattle.frames.specs.declared.Debit.{Debit}
 use Rattle.frames.specs.Limits.{is_section, debit_refusal}
@@ -25,8 +25,7 @@ use Rattle.rules.specs.Working.{debit_for, debit_of, debit_way}
 use Rattle.rules.proofs.Ends.{Ended, empty, ends, ended, last_end, debit_end, or_else_lem}
 use Rattle.rules.specs.declared.SchemeAmounts.{SchemeAmounts}
 use Rattle.debits.specs.declared.DebitsState.{DebitsState}
-use Rattle.debits.specs.declared.DebitSteps.{DebitSteps}
-use Rattle.debits.specs.Debits.{no_debit, no_debits, debit_fields, debit_by, with_debit, pension_if, lump_if, debit_steps, debits_of, covered, highest_debit, DebitsBounds}
+use Rattle.debits.specs.Debits.{no_debits, debit_fields, debit_by, with_debit, pension_if, lump_if, debits_of, covered, highest_debit, DebitsBounds}
 
 -- ---- the code
 
@@ -43,20 +42,20 @@ debits_fit_lem gross debits t e n =
     record { pension2015 = search parts; pension1995 = search parts; lump_sum = search parts }
 
 -- no more than it is
-pub pension_if_most : (section : ℕ) (debit : Stepped) (most : ℕ) → debit.amount.0 ≤ most → (pension_if section debit).amount.0 ≤ most
+pub pension_if_most : (section debit most : ℕ) → debit ≤ most → pension_if section debit ≤ most
 unfolding pension_if
-pension_if_most section debit most h = both_sides (λ (s : Stepped). s.amount.0 ≤ most) (is_section section) debit no_debit h (omega arith)
+pension_if_most section debit most h = both_sides (λ (n : ℕ). n ≤ most) (is_section section) debit 0 h (omega arith)
 
 -- one upward rounding of each at most
-pub debits_ups : (section : ℕ) (s : DebitsState) → (debits_of section s).ups ≤ 2
+pub debits_ups : (section : ℕ) (s : DebitsState) → DebitsBounds s → (debits_of section s).ups ≤ 2
 unfolding debits_of
-debits_ups section s = omega (arith, upward_most (debit_steps section s).pension2015.way, upward_most (debit_steps section s).pension1995.way)
+debits_ups section s b = omega (arith, b.ups2015, pension_if_most section s.pension1995.ups 1 b.ups1995)
 
 -- ---- what is held of the 06s kept
 
--- a debit, and which way it was rounded
-abbrev pub stepped_of : Option Debit → Stepped
-stepped_of o = stepped (debit_of o) (debit_way o)
+-- a debit, and whether it was rounded up
+abbrev counted_of : Option Debit → Counted
+counted_of o = record { amount = record { 0 = debit_of o }; ups = upward (debit_way o) }
 
 abbrev next_of : Option Debit → ℕ
 next_of none = 0
@@ -64,11 +63,11 @@ next_of (some d) = d.scheme + 1
 
 pub record HoldsDebits (s : DebitsState) (ds : List Debit) : Type 0 where
   pub next : s.next ≡ next_of (last_of ds)
-  pub pension2015 : s.pension2015 ≡ stepped_of (debit_for 0 ds)
-  pub pension1995 : s.pension1995 ≡ stepped_of (debit_for 1 ds)
+  pub pension2015 : s.pension2015 ≡ counted_of (debit_for 0 ds)
+  pub pension1995 : s.pension1995 ≡ counted_of (debit_for 1 ds)
 
 pub debits_none : HoldsDebits no_debits []
-unfolding last_of debit_for debit_of debit_way
+unfolding last_of debit_for debit_of debit_way upward
 debits_none = record { next = refl; pension2015 = refl; pension1995 = refl }
 
 -- what holds of the 06s that were not refused
@@ -87,14 +86,14 @@ after_last d ds = by (ended ds)
         above m n = rw add-one refl
 
 -- the debit of a scheme with one 06 more
-debit_next : (o : Option Debit) (d : Debit) (t : Bool) → cond t (stepped (pension_debit d.pot.0 d.factor) (pension_debit_way d.pot.0 d.factor)) (stepped_of o) ≡ stepped_of (cond t (some d) o)
+debit_next : (o : Option Debit) (d : Debit) (t : Bool) → cond t (record { amount = record { 0 = pension_debit d.pot.0 d.factor }; ups = upward (pension_debit_way d.pot.0 d.factor) }) (counted_of o) ≡ counted_of (cond t (some d) o)
 unfolding debit_of debit_way
 debit_next o d true = refl
 debit_next o d false = refl
 
-debit_by_lem : (scheme : ℕ) (ds : List Debit) (d : Debit) → debit_by (stepped_of (debit_for scheme ds)) scheme d ≡ stepped_of (debit_for scheme (ds ++ d ∷ []))
+debit_by_lem : (scheme : ℕ) (ds : List Debit) (d : Debit) → debit_by (counted_of (debit_for scheme ds)) scheme d ≡ counted_of (debit_for scheme (ds ++ d ∷ []))
 unfolding debit_by
-debit_by_lem scheme ds d = debit_next (debit_for scheme ds) d (eqb d.scheme scheme) ∙ ap stepped_of (sym (debit_end scheme ds d))
+debit_by_lem scheme ds d = debit_next (debit_for scheme ds) d (eqb d.scheme scheme) ∙ ap counted_of (sym (debit_end scheme ds d))
 
 debit_bound : (section scheme : ℕ) (ds : List Debit) → All (GoodDebit section) ds → debit_of (debit_for scheme ds) ≤ highest_debit
 unfolding debit_for debit_of
@@ -116,31 +115,19 @@ module _ (s : DebitsState) (ds : List Debit) (h : HoldsDebits s ds) where
   debit_kept d =
       record {
         next = ap next_of (sym (last_end ds d));
-        pension2015 = ap (λ (p : Stepped). debit_by p 0 d) h.pension2015 ∙ debit_by_lem 0 ds d;
-        pension1995 = ap (λ (p : Stepped). debit_by p 1 d) h.pension1995 ∙ debit_by_lem 1 ds d;
+        pension2015 = ap (λ (p : Counted). debit_by p 0 d) h.pension2015 ∙ debit_by_lem 0 ds d;
+        pension1995 = ap (λ (p : Counted). debit_by p 1 d) h.pension1995 ∙ debit_by_lem 1 ds d;
       }
 
   pub debits_bounds : (section : ℕ) → All (GoodDebit section) ds → DebitsBounds s
   debits_bounds section g =
       record {
-        pension1995 = le_trans (le_of_eq (ap (λ (p : Stepped). p.amount.0) h.pension1995)) (debit_bound section 1 ds g);
+        pension1995 = le_trans (le_of_eq (ap (λ (p : Counted). p.amount.0) h.pension1995)) (debit_bound section 1 ds g);
+        ups2015 = le_trans (le_of_eq (ap (λ (p : Counted). p.ups) h.pension2015)) (upward_most (debit_way (debit_for 0 ds)));
+        ups1995 = le_trans (le_of_eq (ap (λ (p : Counted). p.ups) h.pension1995)) (upward_most (debit_way (debit_for 1 ds)));
       }
 
   -- ---- closing
-
-  -- each debit is that of the 06 kept, the section's where the member has one
-  pub steps_are : (section : ℕ) → debit_steps section s ≡ record {
-    pension2015 = stepped_of (debit_for 0 ds);
-    pension1995 = cond (is_section section) (stepped_of (debit_for 1 ds)) no_debit;
-    lump_sum = record { 0 = cond (eqb section 1) (lump_debit (cond (is_section section) (debit_of (debit_for 1 ds)) 0)) 0 };
-  }
-  unfolding debit_steps pension_if lump_if
-  steps_are section = rw (h.pension2015, h.pension1995) (by (is_section section))
-    where
-      by : (t : Bool) → ◌≡◌ {A = DebitSteps} (record { pension2015 = stepped_of (debit_for 0 ds); pension1995 = cond t (stepped_of (debit_for 1 ds)) no_debit; lump_sum = record { 0 = cond (eqb section 1) (lump_debit (cond t (stepped_of (debit_for 1 ds)) no_debit).amount.0) 0 } })
-          (record { pension2015 = stepped_of (debit_for 0 ds); pension1995 = cond t (stepped_of (debit_for 1 ds)) no_debit; lump_sum = record { 0 = cond (eqb section 1) (lump_debit (cond t (debit_of (debit_for 1 ds)) 0)) 0 } })
-      by true = refl
-      by false = refl
 
   pub debits_are : (section : ℕ) → debits_of section s ≡ record {
     pension2015 = record { 0 = debit_of (debit_for 0 ds) };
@@ -148,21 +135,5 @@ module _ (s : DebitsState) (ds : List Debit) (h : HoldsDebits s ds) where
     lump_sum = record { 0 = cond (eqb section 1) (lump_debit (cond (is_section section) (debit_of (debit_for 1 ds)) 0)) 0 };
     ups = upward (debit_way (debit_for 0 ds)) + cond (is_section section) (upward (debit_way (debit_for 1 ds))) 0;
   }
-  unfolding debits_of upward
-  debits_are section = rw (steps_are section) (by (is_section section))
-    where
-      by : (t : Bool) → ◌≡◌ {A = SchemeAmounts}
-          (record {
-            pension2015 = record { 0 = debit_of (debit_for 0 ds) };
-            pension1995 = (cond t (stepped_of (debit_for 1 ds)) no_debit).amount;
-            lump_sum = record { 0 = cond (eqb section 1) (lump_debit (cond t (debit_of (debit_for 1 ds)) 0)) 0 };
-            ups = upward (debit_way (debit_for 0 ds)) + upward (cond t (stepped_of (debit_for 1 ds)) no_debit).way;
-          })
-          (record {
-            pension2015 = record { 0 = debit_of (debit_for 0 ds) };
-            pension1995 = record { 0 = cond t (debit_of (debit_for 1 ds)) 0 };
-            lump_sum = record { 0 = cond (eqb section 1) (lump_debit (cond t (debit_of (debit_for 1 ds)) 0)) 0 };
-            ups = upward (debit_way (debit_for 0 ds)) + cond t (upward (debit_way (debit_for 1 ds))) 0;
-          })
-      by true = refl
-      by false = refl
+  unfolding debits_of pension_if lump_if
+  debits_are section = rw (h.pension2015, h.pension1995) refl

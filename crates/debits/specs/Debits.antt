@@ -3,10 +3,9 @@ use Rattle.std.specs.Prelude.{ℕ, ◌+◌, ◌*◌, ◌-◌, ◌≤◌, Bool, �
 use Rattle.measures.specs.Refusals.{unless, first_refusal}
 use Rattle.measures.specs.Tries.{tried}
 use Rattle.measures.specs.Rounding.{upward}
-use Rattle.measures.specs.declared.Way.{Way}
-use Rattle.measures.specs.declared.Stepped.{Stepped}
+use Rattle.measures.specs.declared.Counted.{Counted}
 use Rattle.benefits.specs.Limits.{highest_pot}
-use Rattle.benefits.specs.Steps.{stepped, pension_debit, pension_debit_way, lump_debit}
+use Rattle.benefits.specs.Steps.{pension_debit, pension_debit_way, lump_debit}
 use Rattle.frames.specs.declared.Debit.{Debit}
 use Rattle.frames.specs.Limits.{is_section, debit_refusal}
 use Rattle.rules.specs.declared.Outcome.{Outcome}
@@ -14,11 +13,10 @@ use Rattle.rules.specs.Working.{worked_unless}
 use Rattle.rules.specs.declared.SchemeAmounts.{SchemeAmounts}
 use Rattle.debits.specs.declared.DebitsState.{DebitsState}
 use Rattle.debits.specs.declared.DebitsTaken.{DebitsTaken}
-use Rattle.debits.specs.declared.DebitSteps.{DebitSteps}
 
 -- no debit
-abbrev pub no_debit : Stepped
-no_debit = stepped 0 Way.Exact
+abbrev pub no_debit : Counted
+no_debit = record { amount = record { 0 = 0 }; ups = 0 }
 
 -- no 06 yet
 abbrev pub no_debits : DebitsState
@@ -31,10 +29,10 @@ unfoldable pub debit_fields : ℕ → DebitsState → Debit → ℕ
 debit_fields section s d = first_refusal (debit_refusal d section) (unless (leb s.next d.scheme) 11)
 
 -- the debit where it is of that scheme, else the debit before
-unfoldable pub debit_by : Stepped → ℕ → Debit → Stepped
+unfoldable pub debit_by : Counted → ℕ → Debit → Counted
 debit_by before scheme d =
     cond (eqb d.scheme scheme)
-    (stepped (pension_debit d.pot.0 d.factor) (pension_debit_way d.pot.0 d.factor)) before
+    (record { amount = record { 0 = pension_debit d.pot.0 d.factor }; ups = upward (pension_debit_way d.pot.0 d.factor) }) before
 
 -- the debit of its scheme; the next 06 is of a higher one
 unfoldable pub with_debit : DebitsState → Debit → DebitsState
@@ -46,31 +44,22 @@ debit_taken section s d = record { debits = tried (debit_fields section) with_de
 
 -- ---- closing
 
--- the section's debit, none without a section
-unfoldable pub pension_if : ℕ → Stepped → Stepped
-pension_if section debit = cond (is_section section) debit no_debit
+-- what there is of the section's debit, 0 without a section
+unfoldable pub pension_if : ℕ → ℕ → ℕ
+pension_if section debit = cond (is_section section) debit 0
 
 -- that of the lump sum, in the 1995 Section alone
 unfoldable pub lump_if : ℕ → ℕ → ℕ
 lump_if section debit = cond (eqb section 1) (lump_debit debit) 0
 
--- the debit of each benefit
-unfoldable pub debit_steps : ℕ → DebitsState → DebitSteps
-debit_steps section s =
-    record {
-      pension2015 = s.pension2015;
-      pension1995 = pension_if section s.pension1995;
-      lump_sum = record { 0 = lump_if section (pension_if section s.pension1995).amount.0 };
-    }
-
--- in amounts, with the upward roundings
+-- the debit of each amount
 unfoldable pub debits_of : ℕ → DebitsState → SchemeAmounts
 debits_of section s =
     record {
-      pension2015 = (debit_steps section s).pension2015.amount;
-      pension1995 = (debit_steps section s).pension1995.amount;
-      lump_sum = (debit_steps section s).lump_sum;
-      ups = upward (debit_steps section s).pension2015.way + upward (debit_steps section s).pension1995.way;
+      pension2015 = s.pension2015.amount;
+      pension1995 = record { 0 = pension_if section s.pension1995.amount.0 };
+      lump_sum = record { 0 = lump_if section (pension_if section s.pension1995.amount.0) };
+      ups = s.pension2015.ups + pension_if section s.pension1995.ups;
     }
 
 -- each debit is at most what it is taken from
@@ -94,6 +83,8 @@ net_of g d charge charge_ups =
 abbrev pub highest_debit : ℕ
 highest_debit = 100 * highest_pot
 
--- how large the section's debit is
+-- how large the section's debit is, and how often each was rounded
 pub record DebitsBounds (s : DebitsState) : Type 0 where
   pub pension1995 : s.pension1995.amount.0 ≤ highest_debit
+  pub ups2015 : s.pension2015.ups ≤ 1
+  pub ups1995 : s.pension1995.ups ≤ 1

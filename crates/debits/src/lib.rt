@@ -2,27 +2,19 @@
 ghost use Rattle.std.specs.Prelude.{◌≡◌, ◌≤◌};
 ghost use Rattle.benefits.specs.Limits.{highest_pot, highest_amount};
 ghost use Rattle.rules.specs.Amounts.{ups_reduced};
-ghost use Rattle.debits.specs.Debits.{no_debit, no_debits, debit_fields, debit_by, debit_taken, pension_if, lump_if, debit_steps, debits_of, covered, net_of, DebitsBounds};
+ghost use Rattle.debits.specs.Debits.{no_debits, debit_fields, debit_by, debit_taken, pension_if, lump_if, debits_of, covered, net_of, DebitsBounds};
 
 use benefits::{lump_debit, pension_debit};
 use frames::{Debit, debit_refusal};
-use measures::{Counted, Pence, Stepped, Way, upward_of_two};
+use measures::{Counted, Pence, upward};
 use rules::{Amounts, Outcome, Refusal, SchemeAmounts};
 
-// The pension debit of each scheme, with the way that it was rounded, and the lowest scheme that an 06 may now have: 0 before the first, then one above the previous one's.
+// The pension debit of each scheme, with 1 where it was rounded up, and the lowest scheme that an 06 may now have: 0 before the first, then one above the previous one's.
 #[derive(Drop)]
 pub struct DebitsState {
     next: u64,
-    pension2015: Stepped,
-    pension1995: Stepped,
-}
-
-// The debit of each benefit: of both pensions with the way that it was rounded, and of the lump sum.
-#[derive(Drop)]
-pub struct DebitSteps {
-    pub pension2015: Stepped,
-    pub pension1995: Stepped,
-    pub lump_sum: Pence,
+    pension2015: Counted,
+    pension1995: Counted,
 }
 
 // The debits after a frame, and the refusal of the frame, 0 for none.
@@ -32,25 +24,19 @@ pub struct DebitsTaken {
     pub refusal: u64,
 }
 
-// No debit.
-fn no_debit() -> Stepped
-    ensures { result ≡ no_debit }
-{
-    Stepped {
-        amount: Pence(0),
-        way: Way::Exact,
-    }
-}
-
 // The debit of an 06 where it is of that scheme, else the debit before.
-fn debit_by(before: Stepped, scheme: u64, d: Debit) -> Stepped
+fn debit_by(before: Counted, scheme: u64, d: Debit) -> Counted
     requires { (d.pot.0 ≤ highest_pot) × (1 ≤ d.factor) }
     ensures { result ≡ debit_by before scheme d }
 {
     if d.scheme != scheme {
         return before;
     }
-    pension_debit(d.pot, d.factor)
+    let debit = pension_debit(d.pot, d.factor);
+    let amount = debit.amount;
+    let way = debit.way;
+    let ups = upward(way);
+    Counted { amount, ups }
 }
 
 // Whether each debit is covered by what it is taken from.
@@ -95,11 +81,14 @@ fn net(gross: SchemeAmounts, debits: SchemeAmounts, charged: Counted) -> Outcome
 }
 
 // The debit of the section's pension, 0 without a section.
-fn pension_if(section: u64, debit: Stepped) -> Stepped
-    ensures { result ≡ pension_if section debit }
+fn pension_if(section: u64, debit: Counted) -> Counted
+    ensures { (result.amount.0 ≡ pension_if section debit.amount.0) × (result.ups ≡ pension_if section debit.ups) }
 {
     if section == 0 {
-        return no_debit();
+        return Counted {
+            amount: Pence(0),
+            ups: 0,
+        };
     }
     debit
 }
@@ -120,7 +109,10 @@ impl DebitsState {
     pub fn none() -> DebitsState
         ensures { result ≡ no_debits }
     {
-        let debit = no_debit();
+        let debit = Counted {
+            amount: Pence(0),
+            ups: 0,
+        };
         DebitsState {
             next: 0,
             pension2015: debit,
@@ -161,39 +153,21 @@ impl DebitsState {
         DebitsTaken { debits, refusal: 0 }
     }
 
-    // The debit of each benefit: scheme 1's with a section, and the lump sum's with it in the 1995 Section alone.
-    pub fn steps(self, section: u64) -> DebitSteps
-        requires { DebitsBounds self }
-        ensures { result ≡ debit_steps section self }
-    {
-        let pension2015 = self.pension2015;
-        let pension1995 = pension_if(section, self.pension1995);
-        let lump = lump_if(section, pension1995.amount);
-        DebitSteps {
-            pension2015,
-            pension1995,
-            lump_sum: lump,
-        }
-    }
-
-    // The same in amounts, and how many of both pensions' debits were rounded up.
+    // The debit of each amount: scheme 1's with a section, and the lump sum's with it in the 1995 Section alone.
     fn amounts(self, section: u64) -> SchemeAmounts
         requires { DebitsBounds self }
         ensures { result ≡ debits_of section self }
     {
-        let steps = self.steps(section);
-        let first = steps.pension2015;
-        let second = steps.pension1995;
+        let first = self.pension2015;
+        let second = pension_if(section, self.pension1995);
         let pension2015 = first.amount;
         let pension1995 = second.amount;
-        let lump = steps.lump_sum;
-        let first_way = first.way;
-        let second_way = second.way;
+        let lump = lump_if(section, pension1995);
         SchemeAmounts {
             pension2015,
             pension1995,
             lump_sum: lump,
-            ups: upward_of_two(first_way, second_way),
+            ups: first.ups + second.ups,
         }
     }
 

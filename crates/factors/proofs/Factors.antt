@@ -203,27 +203,6 @@ module _ (s : FactorsState) (m : Member) (fs : List Factor) (h : HoldsFactors s 
   unfolding reduced_by reductions_by dated_of
   reduced_is a = rw h.dated (rw (pension_is, pension_is, lump_is) refl)
 
-  -- the months early, and the factors found for them
-  pub months_2015 : s.dated.early2015.0 ≡ early2015 m
-  unfolding dated_of
-  months_2015 = rw h.dated refl
-
-  pub months_1995 : s.dated.early1995.0 ≡ early1995 m
-  unfolding dated_of
-  months_1995 = rw h.dated refl
-
-  pub factor_2015 : s.dated.factor2015.pension ≡ pension_factor (factor_for 0 (early2015 m) fs)
-  unfolding dated_of
-  factor_2015 = rw h.dated (pension_is (factor_for 0 (early2015 m) fs))
-
-  pub factor_1995 : s.dated.factor1995.pension ≡ pension_factor (factor_for 1 (early1995 m) fs)
-  unfolding dated_of
-  factor_1995 = rw h.dated (pension_is (factor_for 1 (early1995 m) fs))
-
-  pub factor_lump_sum : s.dated.factor1995.lump ≡ lump_factor (factor_for 1 (early1995 m) fs)
-  unfolding dated_of
-  factor_lump_sum = rw h.dated (lump_is (factor_for 1 (early1995 m) fs))
-
 -- nothing is reduced of nothing, and the rounding is exact
 nought_reduced : (months factor : ℕ) → (reduced_if months factor 0 ≡ 0) × (reduced_if_way months factor 0 ≡ Way.Exact)
 unfolding reduced_if reduced_if_way reduced reduced_way rounded way

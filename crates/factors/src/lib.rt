@@ -24,17 +24,17 @@ pub struct PreviousFactor {
 #[derive(Drop)]
 pub struct FoundFactor {
     found: bool,
-    pub pension: u64,
-    pub lump: u64,
+    pension: u64,
+    lump: u64,
 }
 
 // What depends on the date of retirement: months early in each scheme, 0 where it is not early, and the factors found for them.
 #[derive(Drop)]
 pub struct Dated {
-    pub early2015: Months,
-    pub early1995: Months,
-    pub factor2015: FoundFactor,
-    pub factor1995: FoundFactor,
+    early2015: Months,
+    early1995: Months,
+    factor2015: FoundFactor,
+    factor1995: FoundFactor,
 }
 
 // The previous 05, and what depends on the date of retirement.
@@ -173,7 +173,7 @@ fn wanted_found(months: Months, factor: FoundFactor) -> bool
 }
 
 // An amount reduced by a factor where months early is positive; otherwise nothing is rounded.
-pub fn reduced_if(months: Months, factor: u64, amount: Pence) -> Stepped
+fn reduced_if(months: Months, factor: u64, amount: Pence) -> Stepped
     requires { (factor ≤ highest_early_factor) × (amount.0 ≤ 2 ^ 50) }
     ensures { (result.amount.0 ≡ reduced_if months.0 factor amount.0) × (result.way ≡ reduced_if_way months.0 factor amount.0) }
 {
@@ -262,13 +262,6 @@ impl FactorsState {
             return true;
         }
         wanted_found(dated.early1995, dated.factor1995)
-    }
-
-    // What depends on the date of retirement.
-    pub fn dated(self) -> Dated
-        ensures { result ≡ self.dated }
-    {
-        self.dated
     }
 
     // The amounts reduced, each by its own factor.

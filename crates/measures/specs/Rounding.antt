@@ -15,9 +15,3 @@ unfoldable pub upward : Way → ℕ
 upward Way.Exact = 0
 upward Way.Down = 0
 upward Way.Up = 1
-
--- which way, in a number: 0 exact or not rounded, 1 down, 2 up
-unfoldable pub way_number : Way → ℕ
-way_number Way.Exact = 0
-way_number Way.Down = 1
-way_number Way.Up = 2

@@ -1,6 +1,6 @@
 // The measures of a pension case, what a call apart gives, and the rounding that every step shares.
 ghost use Rattle.std.specs.Prelude.{◌≡◌, ◌+◌, ◌*◌, ◌^◌, ◌<◌};
-ghost use Rattle.measures.specs.Rounding.{rounded, way, upward, way_number};
+ghost use Rattle.measures.specs.Rounding.{rounded, way, upward};
 
 // The highest yearly pay that is taken, in pence.
 pub const HIGHEST_PAY: u64 = 1000000000;
@@ -114,17 +114,6 @@ pub fn upward(went: Way) -> u64
         Way::Exact => 0,
         Way::Down => 0,
         Way::Up => 1,
-    }
-}
-
-// Which way a rounding went, in a number: 0 for none or exact, 1 down, 2 up.
-pub fn way_number(went: Way) -> u64
-    ensures { result ≡ way_number went }
-{
-    match went {
-        Way::Exact => 0,
-        Way::Down => 1,
-        Way::Up => 2,
     }
 }
 

@@ -1,6 +1,6 @@
 -- The pay of the member's section: how large its amounts are, and what is held of the 04 or 08 kept.
 use Prim.Native.Nat.{ℕ, ◌+◌, ◌≤◌, ◌^◌}
-use mathlib.Core.Path.{◌≡◌, refl, sym, ◌∙◌, subst}
+use mathlib.Core.Path.{◌≡◌, refl, sym, subst}
 use mathlib.Core.Bool.{Bool, true, false, ◌||◌, not, cond}
 use mathlib.Core.Option.{Option, none, some}
 use native.Mathlib.Omega.{arith}
@@ -8,7 +8,7 @@ use lib.Dec.{eqb}
 use borrow.Author.Tests.{eqb-true}
 use Rattle.measures.specs.Rounding.{rounded, way, upward}
 use Rattle.measures.proofs.Rounding.{upward_most}
-use Rattle.measures.proofs.Tests.{clash, both_sides}
+use Rattle.measures.proofs.Tests.{both_sides}
 use Rattle.benefits.specs.declared.FinalPay.{FinalPay}
 use Rattle.benefits.specs.Steps.{final_pay, final_year, section_pension, section_pension_way, lump_sum, controlled, raised, allowed_from, allowed_from_way, allowed3, allowed3_way, allowed2, allowed2_way, allowed1, allowed1_way, allowed_in, allowed_ups, excess, excess_pension, excess_pension_way, charge_from, charge_product_way, charge_from_ups, charge, charge_ups, final_pay_refusal}
 use Rattle.benefits.specs.Bounds.{FinalPayBounds}
@@ -23,40 +23,39 @@ use Rattle.frames.specs.Limits.{is_section}
 use Rattle.rules.specs.Rules.{SectionPay, of1995, of2008, given}
 use Rattle.rules.specs.Working.{own_pay, pension1995, charge_of, section_ups, charge_ups_of}
 use Rattle.section.specs.declared.SectionState.{SectionState}
-use Rattle.section.specs.declared.SectionSteps.{SectionSteps}
 use Rattle.rules.specs.Amounts.{AmountsBounds, ups_of_years}
-use Rattle.section.specs.Section.{no_pay, no_average, no_section, with_pay, with_ten_pays, pay_held, steps_of_pay, steps_of_average, no_steps, section_steps, steps_ups, earned_of, SectionBounds}
+use Rattle.section.specs.Section.{no_pay, no_average, no_section, with_pay, with_ten_pays, pay_held, pension_of_pay, ups_of_pay, ups_of_average, pension_earned, ups_earned_by, lump_earned, earned_of, SectionBounds}
 
 -- ---- the code
 
-pay_limit : (f : FinalPay) → FinalPayBounds f → section_pension (final_pay f) f.days ≤ 562500000
-pay_limit f b = section_limit _ _ (final_pay_limit f b) b.days
+pub pension_limit : (f : FinalPay) → FinalPayBounds f → pension_of_pay f ≤ 562500000
+unfolding pension_of_pay
+pension_limit f b = section_limit _ _ (final_pay_limit f b) b.days
 
 -- before they are reduced
 module _ (s : SectionState) (b : SectionBounds s) where
   -- two roundings at most
-  pub earned_ups : (section : ℕ) → steps_ups (section_steps section s) ≤ 2
-  earned_ups section = omega (arith, upward_most (section_steps section s).pay.way, upward_most (section_steps section s).pension.way)
+  pub earned_ups : (section : ℕ) → ups_earned_by section s ≤ 2
+  unfolding ups_earned_by ups_of_pay ups_of_average
+  earned_ups section =
+      let f = s.pay in
+      let a = s.average in
+      both_sides (λ (n : ℕ). n ≤ 2) (eqb section 1) _ _ (omega (arith, upward_most (section_pension_way (final_pay f) f.days)))
+      (both_sides (λ (n : ℕ). n ≤ 2) (eqb section 2) _ 0 (omega (arith, b.average.ups, upward_most (pension2008_way a.pay.0 a.days))) (omega arith))
 
-  pub earned_limit : (section : ℕ) → (section_steps section s).pension.amount.0 ≤ 750000000
-  unfolding section_steps steps_of_pay steps_of_average
+  pub earned_limit : (section : ℕ) → pension_earned section s ≤ 750000000
+  unfolding pension_earned
   earned_limit section =
-      both_sides (λ (n : SectionSteps). n.pension.amount.0 ≤ 750000000) (eqb section 1) _ _ (omega (arith, pay_limit s.pay b.pay))
-      (both_sides (λ (n : SectionSteps). n.pension.amount.0 ≤ 750000000) (eqb section 2) _ no_steps (pension2008_limit _ _ b.average.pay b.average.days) (omega arith))
-
-  pub lump_limit : (section : ℕ) → (section_steps section s).lump_sum.0 ≤ 2 ^ 50
-  unfolding section_steps steps_of_pay steps_of_average lump_sum
-  lump_limit section =
-      both_sides (λ (n : SectionSteps). n.lump_sum.0 ≤ 2 ^ 50) (eqb section 1) _ _ (omega (arith, pay_limit s.pay b.pay))
-      (both_sides (λ (n : SectionSteps). n.lump_sum.0 ≤ 2 ^ 50) (eqb section 2) _ no_steps (omega arith) (omega arith))
+      both_sides (λ (n : ℕ). n ≤ 750000000) (eqb section 1) _ _ (omega (arith, pension_limit s.pay b.pay))
+      (both_sides (λ (n : ℕ). n ≤ 750000000) (eqb section 2) _ 0 (pension2008_limit _ _ b.average.pay b.average.days) (omega arith))
 
   pub earned_bounds : (section pension ups : ℕ) → pension ≤ 2 ^ 50 → ups ≤ ups_of_years → AmountsBounds (earned_of s section pension ups)
-  unfolding earned_of
+  unfolding earned_of lump_earned lump_sum
   earned_bounds section pension ups g few =
       record {
         pension2015 = g;
         pension1995 = omega (arith, earned_limit section);
-        lump_sum = lump_limit section;
+        lump_sum = both_sides (λ (n : ℕ). n ≤ 2 ^ 50) (eqb section 1) _ 0 (omega (arith, earned_limit section)) (omega arith);
         ups = omega (arith, earned_ups section);
       }
 
@@ -98,7 +97,7 @@ no_pay_bounds : FinalPayBounds no_pay
 no_pay_bounds = record { pay4 = omega arith; pay3 = omega arith; pay2 = omega arith; pay1 = omega arith; allowance3 = omega arith; allowance2 = omega arith; allowance1 = omega arith; days = omega arith; factor = omega arith }
 
 no_average_bounds : AveragePayBounds no_average
-no_average_bounds = record { pay = omega arith; days = omega arith }
+no_average_bounds = record { pay = omega arith; days = omega arith; ups = omega arith }
 
 good_pay : (section : ℕ) (o : Option SectionPay) → GoodPay section o → FinalPayBounds (pay_of o)
 good_pay section none g = no_pay_bounds
@@ -113,49 +112,33 @@ good_average section (some (of2008 t)) g = averaged_bounds t (accepted_ten_pays 
 nought : (t : Bool) → ◌≡◌ {A = ℕ} (cond t 0 0) 0
 nought t = both_sides (λ (n : ℕ). n ≡ 0) t 0 0 refl refl
 
--- the steps are those of the pay frame, which stands with its own section; without one those of noughts
-abbrev steps_by : ℕ → FinalPay → AveragePay → SectionSteps
-steps_by section f a = cond (eqb section 1) (steps_of_pay f) (cond (eqb section 2) (steps_of_average a) no_steps)
+-- the pension is that of the pay frame, which stands with its own section; without one it is that of noughts
+abbrev earned_by : ℕ → FinalPay → AveragePay → ℕ
+earned_by section f a = cond (eqb section 1) (pension_of_pay f) (cond (eqb section 2) (pension2008 a.pay.0 a.days) 0)
 
--- of noughts, what is nought in all three is nought
-of_noughts : (section : ℕ) (f : SectionSteps → ℕ) → f (steps_of_pay no_pay) ≡ 0 → f (steps_of_average no_average) ≡ 0 → f no_steps ≡ 0 → f (steps_by section no_pay no_average) ≡ 0
-of_noughts section f one two neither =
-    both_sides (λ (n : SectionSteps). f n ≡ 0) (eqb section 1) _ _ one (both_sides (λ (n : SectionSteps). f n ≡ 0) (eqb section 2) _ _ two neither)
-
-pension_is : (section : ℕ) (o : Option SectionPay) → GoodPay section o → (steps_by section (pay_of o) (average_of o)).pension.amount.0 ≡ cond (is_section section) (pension1995 o (own_pay o)) 0
-unfolding steps_of_pay steps_of_average section_pension final_pay pension2008 averaged pension1995 own_pay rounded
-pension_is section none g = rw (of_noughts section (λ (n : SectionSteps). n.pension.amount.0) refl refl refl, nought (is_section section)) refl
+pension_is : (section : ℕ) (o : Option SectionPay) → GoodPay section o → earned_by section (pay_of o) (average_of o) ≡ cond (is_section section) (pension1995 o (own_pay o)) 0
+unfolding pension_of_pay section_pension final_pay pension2008 averaged pension1995 own_pay rounded
+pension_is section none g = rw (nought (eqb section 2), nought (eqb section 1), nought (is_section section)) refl
 pension_is section (some (of1995 f)) g = rw g.0 refl
 pension_is section (some (of2008 t)) g = rw g.0 refl
 
-lump_is : (section : ℕ) (o : Option SectionPay) → GoodPay section o → (steps_by section (pay_of o) (average_of o)).lump_sum.0 ≡ cond (eqb section 1) (lump_sum (pension1995 o (own_pay o))) 0
-unfolding steps_of_pay steps_of_average section_pension final_pay averaged lump_sum pension1995 own_pay rounded
-lump_is section none g = rw (of_noughts section (λ (n : SectionSteps). n.lump_sum.0) refl refl refl, nought (eqb section 1)) refl
-lump_is section (some (of1995 f)) g = rw g.0 refl
-lump_is section (some (of2008 t)) g = rw g.0 refl
+-- and so are its upward roundings
+abbrev ups_by : ℕ → FinalPay → AveragePay → ℕ
+ups_by section f a = cond (eqb section 1) (ups_of_pay f) (cond (eqb section 2) (ups_of_average a) 0)
 
--- and so are their upward roundings
-ups_are : (section : ℕ) (o : Option SectionPay) → GoodPay section o → steps_ups (steps_by section (pay_of o) (average_of o)) ≡ section_ups o
-unfolding steps_of_pay steps_of_average section_pension_way final_pay pension2008_way averaged section_ups rounded way upward
-ups_are section none g = of_noughts section steps_ups refl refl refl
-ups_are section (some (of1995 f)) g = rw g.0 (omega arith)
+ups_are : (section : ℕ) (o : Option SectionPay) → GoodPay section o → ups_by section (pay_of o) (average_of o) ≡ section_ups o
+unfolding ups_of_pay ups_of_average section_pension_way final_pay pension2008_way averaged section_ups rounded way upward
+ups_are section none g = rw (nought (eqb section 2), nought (eqb section 1)) refl
+ups_are section (some (of1995 f)) g = rw g.0 refl
 ups_are section (some (of2008 t)) g = rw g.0 refl
 
--- those of the pay frame kept
-abbrev pub kept_steps : Option SectionPay → SectionSteps
-kept_steps none = no_steps
-kept_steps (some (of1995 f)) = steps_of_pay f
-kept_steps (some (of2008 t)) = steps_of_average (averaged t)
-
--- where there is a section, there is its pay frame
-steps_by_lem : (section : ℕ) (o : Option SectionPay) → GoodPay section o → (not (is_section section) || given o) ≡ true → steps_by section (pay_of o) (average_of o) ≡ kept_steps o
-steps_by_lem section none g there = by (eqb section 0) refl there
+-- section 1 is a section
+lump_is : (section pension : ℕ) → cond (eqb section 1) (lump_sum (cond (is_section section) pension 0)) 0 ≡ cond (eqb section 1) (lump_sum pension) 0
+lump_is section pension = by (eqb section 1) refl
   where
-    by : (t : Bool) → eqb section 0 ≡ t → (not (not t) || false) ≡ true → steps_by section no_pay no_average ≡ no_steps
-    by true e q = let z : section ≡ 0 = eqb-true _ _ e in rw z refl
-    by false e q = clash (cc)
-steps_by_lem section (some (of1995 f)) g there = rw g.0 refl
-steps_by_lem section (some (of2008 t)) g there = rw g.0 refl
+    by : (t : Bool) → eqb section 1 ≡ t → cond t (lump_sum (cond (is_section section) pension 0)) 0 ≡ cond t (lump_sum pension) 0
+    by true e = let one : section ≡ 1 = eqb-true _ _ e in rw one refl
+    by false e = refl
 
 charge_is : (o : Option SectionPay) → charge (pay_of o) ≡ charge_of o
 unfolding charge_of charge charge_from excess_pension section_pension excess allowed_in allowed_from allowed3 allowed2 allowed1 raised controlled final_year final_pay rounded
@@ -179,16 +162,17 @@ module _ (s : SectionState) (o : Option SectionPay) (h : HoldsSection s o) (sect
   unfolding pay_held
   held_is = rw h.given refl
 
-  steps_of_lem : section_steps section s ≡ steps_by section (pay_of o) (average_of o)
-  unfolding section_steps
-  steps_of_lem = rw (h.pay, h.average) refl
+  earned_pension : pension_earned section s ≡ cond (is_section section) (pension1995 o (own_pay o)) 0
+  unfolding pension_earned
+  earned_pension = rw (h.pay, h.average) (pension_is section o g)
+
+  earned_roundings : ups_earned_by section s ≡ section_ups o
+  unfolding ups_earned_by
+  earned_roundings = rw (h.pay, h.average) (ups_are section o g)
 
   pub earned_is : (pension ups : ℕ) → earned_of s section pension ups ≡ record { pension2015 = record { 0 = pension }; pension1995 = record { 0 = cond (is_section section) (pension1995 o (own_pay o)) 0 }; lump_sum = record { 0 = cond (eqb section 1) (lump_sum (pension1995 o (own_pay o))) 0 }; ups = ups + section_ups o }
-  unfolding earned_of
-  earned_is pension ups = rw (steps_of_lem, ← (pension_is section o g), ← (lump_is section o g), ← (ups_are section o g)) refl
-
-  pub steps_kept_lem : (not (is_section section) || given o) ≡ true → section_steps section s ≡ kept_steps o
-  steps_kept_lem there = steps_of_lem ∙ steps_by_lem section o g there
+  unfolding earned_of lump_earned
+  earned_is pension ups = rw (earned_pension, earned_roundings, lump_is section (pension1995 o (own_pay o))) refl
 
   pub charge_held : charge s.pay ≡ charge_of o
   charge_held = rw h.pay (charge_is o)

@@ -2,9 +2,8 @@
 use Rattle.std.specs.Prelude.{ℕ, ◌+◌, Bool, true, false, ◌||◌, not, cond, eqb}
 use Rattle.measures.specs.Tries.{tried}
 use Rattle.measures.specs.Rounding.{upward}
-use Rattle.measures.specs.declared.Way.{Way}
 use Rattle.benefits.specs.declared.FinalPay.{FinalPay}
-use Rattle.benefits.specs.Steps.{stepped, final_pay, final_year, section_pension, section_pension_way, lump_sum, final_pay_refusal}
+use Rattle.benefits.specs.Steps.{final_pay, section_pension, section_pension_way, lump_sum, final_pay_refusal}
 use Rattle.benefits.specs.Bounds.{FinalPayBounds}
 use Rattle.averages.specs.declared.TenPays.{TenPays}
 use Rattle.averages.specs.declared.AveragePay.{AveragePay}
@@ -14,7 +13,6 @@ use Rattle.frames.specs.Limits.{is_section}
 use Rattle.rules.specs.declared.SchemeAmounts.{SchemeAmounts}
 use Rattle.section.specs.declared.SectionState.{SectionState}
 use Rattle.section.specs.declared.SectionTaken.{SectionTaken}
-use Rattle.section.specs.declared.SectionSteps.{SectionSteps}
 
 -- a final pay with noughts
 abbrev pub no_pay : FinalPay
@@ -34,7 +32,7 @@ no_pay =
 
 -- an average pay with noughts
 abbrev pub no_average : AveragePay
-no_average = record { pay = stepped 0 Way.Exact; year = 0; days = 0 }
+no_average = record { pay = record { 0 = 0 }; year = 0; days = 0; ups = 0 }
 
 -- no pay frame yet
 abbrev pub no_section : SectionState
@@ -74,46 +72,39 @@ ten_pays_taken s t = record { section = tried ten_pays_fields with_ten_pays s t;
 unfoldable pub pay_held : ℕ → SectionState → Bool
 pay_held section s = not (is_section section) || s.given
 
--- of a final pay: the 1995 pension, and the lump sum that goes with it
-unfoldable pub steps_of_pay : FinalPay → SectionSteps
-steps_of_pay f =
-    record {
-      pay = stepped (final_pay f) Way.Exact;
-      year = final_year f;
-      pension = stepped (section_pension (final_pay f) f.days) (section_pension_way (final_pay f) f.days);
-      lump_sum = record { 0 = lump_sum (section_pension (final_pay f) f.days) };
-    }
+-- the 1995 pension of a final pay
+unfoldable pub pension_of_pay : FinalPay → ℕ
+pension_of_pay f = section_pension (final_pay f) f.days
 
--- of an average pay: the 2008 pension, and no lump sum
-unfoldable pub steps_of_average : AveragePay → SectionSteps
-steps_of_average a =
-    record {
-      pay = a.pay;
-      year = a.year;
-      pension = stepped (pension2008 a.pay.amount.0 a.days) (pension2008_way a.pay.amount.0 a.days);
-      lump_sum = record { 0 = 0 };
-    }
+-- whether its rounding went up
+unfoldable pub ups_of_pay : FinalPay → ℕ
+ups_of_pay f = upward (section_pension_way (final_pay f) f.days)
 
--- without a section
-abbrev pub no_steps : SectionSteps
-no_steps = record { pay = stepped 0 Way.Exact; year = 0; pension = stepped 0 Way.Exact; lump_sum = record { 0 = 0 } }
+-- how many of the roundings of an average pay and its pension went up
+unfoldable pub ups_of_average : AveragePay → ℕ
+ups_of_average a = a.ups + upward (pension2008_way a.pay.0 a.days)
 
--- of the member's section
-unfoldable pub section_steps : ℕ → SectionState → SectionSteps
-section_steps section s = cond (eqb section 1) (steps_of_pay s.pay) (cond (eqb section 2) (steps_of_average s.average) no_steps)
+-- the pension of the member's section
+unfoldable pub pension_earned : ℕ → SectionState → ℕ
+pension_earned section s =
+    cond (eqb section 1) (pension_of_pay s.pay) (cond (eqb section 2) (pension2008 s.average.pay.0 s.average.days) 0)
 
--- how many of both roundings went up: the pay's, where it is an average, and the pension's
-abbrev pub steps_ups : SectionSteps → ℕ
-steps_ups s = upward s.pay.way + upward s.pension.way
+-- how many of its roundings went up
+unfoldable pub ups_earned_by : ℕ → SectionState → ℕ
+ups_earned_by section s = cond (eqb section 1) (ups_of_pay s.pay) (cond (eqb section 2) (ups_of_average s.average) 0)
+
+-- the lump sum that goes with it, in the 1995 Section alone
+unfoldable pub lump_earned : ℕ → ℕ → ℕ
+lump_earned section pension = cond (eqb section 1) (lump_sum pension) 0
 
 -- the amounts before any reduction, with the 2015 pension and its upward roundings beside those of the section
 unfoldable pub earned_of : SectionState → ℕ → ℕ → ℕ → SchemeAmounts
 earned_of s section pension ups =
     record {
       pension2015 = record { 0 = pension };
-      pension1995 = (section_steps section s).pension.amount;
-      lump_sum = (section_steps section s).lump_sum;
-      ups = ups + steps_ups (section_steps section s);
+      pension1995 = record { 0 = pension_earned section s };
+      lump_sum = record { 0 = lump_earned section (pension_earned section s) };
+      ups = ups + ups_earned_by section s;
     }
 
 -- how large its numbers are

@@ -1,15 +1,16 @@
 // The pay of the member's section: refusals 9, 27 and 12, the section's pension and lump sum, and the charge.
 ghost use Rattle.std.specs.Prelude.{◌≡◌, ◌≤◌};
 ghost use Rattle.benefits.specs.Bounds.{FinalPayBounds};
-ghost use Rattle.measures.specs.declared.Way.{Way};
-ghost use Rattle.benefits.specs.Steps.{stepped, charge, charge_ups};
+ghost use Rattle.benefits.specs.Limits.{highest_amount};
+ghost use Rattle.benefits.specs.Steps.{charge, charge_ups};
+ghost use Rattle.averages.specs.Averages.{pension2008};
 ghost use Rattle.averages.specs.Bounds.{AveragePayBounds};
 ghost use Rattle.rules.specs.Amounts.{ups_of_years};
-ghost use Rattle.section.specs.Section.{no_pay, no_average, no_section, pay_taken, ten_pays_taken, pay_held, steps_of_pay, steps_of_average, no_steps, section_steps, earned_of, SectionBounds};
+ghost use Rattle.section.specs.Section.{no_pay, no_average, no_section, pay_taken, ten_pays_taken, pay_held, pension_of_pay, ups_of_pay, ups_of_average, pension_earned, ups_earned_by, lump_earned, earned_of, SectionBounds};
 
 use averages::{AveragePay, TenPays, averaged, pension_2008, ten_pays_refusal};
 use benefits::{FinalPay, final_pay, final_pay_refusal, lump_sum, section_pension};
-use measures::{Counted, Pence, Stepped, Way, upward_of_two};
+use measures::{Counted, Pence, upward};
 use rules::SchemeAmounts;
 
 // Whether the section's pay frame was taken, and what is held of it: the 04, or the average of the 08; noughts otherwise.
@@ -25,25 +26,6 @@ pub struct SectionState {
 pub struct SectionTaken {
     pub section: SectionState,
     pub refusal: u64,
-}
-
-// The steps of the section: its pay with the year that it is of, its pension and its lump sum before any reduction.
-#[derive(Drop)]
-pub struct SectionSteps {
-    pub pay: Stepped,
-    pub year: u64,
-    pub pension: Stepped,
-    pub lump_sum: Pence,
-}
-
-// An amount that no step rounds.
-fn unrounded(amount: Pence) -> Stepped
-    ensures { result ≡ stepped amount.0 Way.Exact }
-{
-    Stepped {
-        amount,
-        way: Way::Exact,
-    }
 }
 
 // A final pay with noughts.
@@ -69,56 +51,48 @@ fn no_pay() -> FinalPay
 fn no_average() -> AveragePay
     ensures { result ≡ no_average }
 {
-    let pay = unrounded(Pence(0));
     AveragePay {
-        pay,
+        pay: Pence(0),
         year: 0,
         days: 0,
+        ups: 0,
     }
 }
 
-// The steps of a final pay: the 1995 Section's pension, and the lump sum that goes with it.
-fn steps_of_pay(pay: FinalPay) -> SectionSteps
+// The 1995 pension of a final pay, before any reduction, and whether its rounding went up.
+fn pension_of(pay: FinalPay) -> Counted
     requires { FinalPayBounds pay }
-    ensures { result ≡ steps_of_pay pay }
+    ensures { (result.amount.0 ≡ pension_of_pay pay) × (result.ups ≡ ups_of_pay pay) }
 {
     let best = final_pay(pay);
     let pension = section_pension(best.pay, pay.days);
-    let lump = lump_sum(pension.amount);
-    SectionSteps {
-        pay: unrounded(best.pay),
-        year: best.year,
-        pension,
-        lump_sum: lump,
-    }
+    let amount = pension.amount;
+    let way = pension.way;
+    let ups = upward(way);
+    Counted { amount, ups }
 }
 
-// The steps of an average pay: the 2008 Section's pension, and no lump sum.
-fn steps_of_average(average: AveragePay) -> SectionSteps
+// The 2008 pension of an average pay, before any reduction, and how many of both roundings went up.
+fn pension_of_average(average: AveragePay) -> Counted
     requires { AveragePayBounds average }
-    ensures { result ≡ steps_of_average average }
+    ensures { (result.amount.0 ≡ pension2008 average.pay.0 average.days) × (result.ups ≡ ups_of_average average) }
 {
-    let pay = average.pay;
-    let pension = pension_2008(pay.amount, average.days);
-    SectionSteps {
-        pay,
-        year: average.year,
-        pension,
-        lump_sum: Pence(0),
-    }
+    let pension = pension_2008(average.pay, average.days);
+    let amount = pension.amount;
+    let way = pension.way;
+    let ups = average.ups + upward(way);
+    Counted { amount, ups }
 }
 
-// No section.
-fn no_steps() -> SectionSteps
-    ensures { result ≡ no_steps }
+// The lump sum that goes with the section's pension: there is one in the 1995 Section alone.
+fn lump_earned(section: u64, pension: Pence) -> Pence
+    requires { pension.0 ≤ highest_amount }
+    ensures { result.0 ≡ lump_earned section pension.0 }
 {
-    let none = unrounded(Pence(0));
-    SectionSteps {
-        pay: none,
-        year: 0,
-        pension: none,
-        lump_sum: Pence(0),
+    if section != 1 {
+        return Pence(0);
     }
+    lump_sum(pension)
 }
 
 impl SectionState {
@@ -192,23 +166,19 @@ impl SectionState {
         self.given
     }
 
-    // The steps of the member's section, noughts without one.
-    pub fn steps(self, section: u64) -> SectionSteps
+    // The pension of the member's section before any reduction, 0 without a section, and how many of its roundings went up.
+    fn pension(self, section: u64) -> Counted
         requires { SectionBounds self }
-        ensures { result ≡ section_steps section self }
+        ensures { (result.amount.0 ≡ pension_earned section self) × (result.ups ≡ ups_earned_by section self) }
     {
         match section {
-            1 => steps_of_pay(self.pay),
-            2 => steps_of_average(self.average),
-            _ => no_steps(),
+            1 => pension_of(self.pay),
+            2 => pension_of_average(self.average),
+            _ => Counted {
+                amount: Pence(0),
+                ups: 0,
+            },
         }
-    }
-
-    // The final pay that is held, noughts without an 04.
-    pub fn pay(self) -> FinalPay
-        ensures { result ≡ self.pay }
-    {
-        self.pay
     }
 
     // The amounts before any reduction, with the 2015 pension beside those of the section.
@@ -217,18 +187,14 @@ impl SectionState {
         ensures { result ≡ earned_of self section years.amount.0 years.ups }
     {
         let pension2015 = years.amount;
-        let own = self.steps(section);
-        let pay = own.pay;
-        let pension = own.pension;
-        let pension1995 = pension.amount;
-        let lump = own.lump_sum;
-        let pay_way = pay.way;
-        let pension_way = pension.way;
+        let own = self.pension(section);
+        let pension1995 = own.amount;
+        let lump = lump_earned(section, pension1995);
         SchemeAmounts {
             pension2015,
             pension1995,
             lump_sum: lump,
-            ups: years.ups + upward_of_two(pay_way, pension_way),
+            ups: years.ups + own.ups,
         }
     }
 

@@ -8,14 +8,13 @@ use Rattle.posts.specs.Posts.{aggregate_pay, aggregate_way}
 use Rattle.posts.specs.Refusals.{post_refusal}
 use Rattle.posts.specs.Year.{no_posts, posts_of, Held, joined_by}
 use Rattle.benefits.specs.Limits.{highest_revaluation}
-use Rattle.benefits.specs.Steps.{stepped, year_pension, after_year, after_year_ups}
+use Rattle.benefits.specs.Steps.{after_year, after_year_ups}
 use Rattle.frames.specs.declared.Year.{Year}
 use Rattle.frames.specs.Limits.{year_stands}
 use Rattle.rules.specs.Rules.{most_years}
 use Rattle.rules.specs.Amounts.{ups_of_years}
 use Rattle.years.specs.declared.YearsState.{YearsState}
 use Rattle.years.specs.declared.YearsTaken.{YearsTaken}
-use Rattle.years.specs.declared.LastYear.{LastYear}
 
 -- no year yet
 abbrev pub no_years : YearsState
@@ -38,15 +37,6 @@ unfoldable pub ups_now : YearsState → ℕ
 ups_now s =
     cond (eqb s.count 0) 0
     (s.ups + (upward (aggregate_way (posts_of s.posts)) + after_year_ups s.pension.0 s.revaluation (aggregate_pay (posts_of s.posts))))
-
--- the year that is open, by its steps
-unfoldable pub last_year : YearsState → LastYear
-last_year s =
-    record {
-      count = s.count;
-      aggregate = stepped (aggregate_pay (posts_of s.posts)) (aggregate_way (posts_of s.posts));
-      pension = year_pension s.pension.0 s.revaluation (aggregate_pay (posts_of s.posts));
-    }
 
 -- by an 02: the year that was open is counted, and a year without posts is open
 unfoldable pub with_year : YearsState → Year → YearsState

@@ -1,10 +1,10 @@
 // Years, and the posts of a year: refusals 6, 7 and 8, and the pension of the years.
 ghost use Rattle.std.specs.Prelude.{◌≡◌};
-ghost use Rattle.years.specs.Years.{no_years, year_fields, pension_now, ups_now, last_year, year_taken, post_taken, YearsBounds};
+ghost use Rattle.years.specs.Years.{no_years, year_fields, pension_now, ups_now, year_taken, post_taken, YearsBounds};
 
-use benefits::{YearPension, after_year, year_pension};
+use benefits::after_year;
 use frames::{Year, year_stands};
-use measures::{Counted, Pence, Stepped, upward};
+use measures::{Counted, Pence, upward};
 use posts::{Post, YearPosts};
 
 // The years that a case has at most.
@@ -20,15 +20,6 @@ pub struct YearsState {
     pension: Pence,
     ups: u64,
     posts: YearPosts,
-}
-
-// The last year: how many years there are with it, its aggregate with the way that it was rounded, and what it makes of
-// the pension.
-#[derive(Drop)]
-pub struct LastYear {
-    pub count: u64,
-    pub aggregate: Stepped,
-    pub pension: YearPension,
 }
 
 // The years after a frame, and the refusal of the frame, 0 for none.
@@ -91,23 +82,6 @@ impl YearsState {
         let amount = after.amount;
         let ups = self.ups + upward(way) + after.ups;
         Counted { amount, ups }
-    }
-
-    // The last year by its steps; without a year those of noughts.
-    pub fn last(self) -> LastYear
-        requires { YearsBounds self }
-        ensures { result ≡ last_year self }
-    {
-        let work = self.posts.allocate();
-        let amount = work.aggregate;
-        let way = work.way;
-        let aggregate = Stepped { amount, way };
-        let pension = year_pension(self.pension, self.revaluation, amount);
-        LastYear {
-            count: self.count,
-            aggregate,
-            pension,
-        }
     }
 
     // An 02 taken: the last year is counted, and a year without posts is open.

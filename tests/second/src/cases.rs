@@ -207,16 +207,6 @@ impl Case {
         Some(months_before(member.birth, member.retirement, pension_age))
     }
 
-    /// Whether retirement is early in a scheme.
-    pub fn is_early(&self, scheme: u64) -> bool {
-        self.months_early(scheme).map_or(false, |months| months > 0)
-    }
-
-    /// Whether the posts of some year pass the test.
-    pub fn any_year(&self, test: fn(&[Post]) -> bool) -> bool {
-        self.years.iter().any(|year| test(&year.posts))
-    }
-
     /// The factor that reduces a scheme: none if nothing is reduced, refusal 13 if it is missing.
     pub fn factor(&self, scheme: u64) -> Result<Option<Factor>, u64> {
         let Some(months @ 1..) = self.months_early(scheme) else {
@@ -227,16 +217,12 @@ impl Case {
         Ok(Some(*found))
     }
 
-    /// The pension debit of a scheme; 0 where it has none.
-    pub fn debit_of(&self, scheme: u64) -> Rounded {
-        let debit = self.debits.iter().find(|debit| debit.scheme == scheme);
-        let given = debit.map(|debit| pension_debit(debit.pot, debit.factor));
-        given.unwrap_or(Rounded::whole(0))
-    }
-
     /// The debits of both schemes.
     pub fn benefit_debits(&self) -> Benefits {
-        let of = |scheme: u64| self.debit_of(scheme).number;
+        let of = |scheme: u64| {
+            let debit = self.debits.iter().find(|debit| debit.scheme == scheme);
+            debit.map_or(0, |debit| pension_debit(debit.pot, debit.factor).number)
+        };
         Benefits {
             pension_2015: of(0),
             pension_1995: of(1),

@@ -5,7 +5,6 @@
 use crate::cases::{Case, Outcome};
 use crate::posts::{in_order, parts_by, rounded_sum, Post, Worth};
 use crate::wide::Rounded;
-use crate::Steps;
 
 /// The places of the posts by falling p/h; of equals the earlier post first.
 pub fn by_pay_a_minute(posts: &[Post]) -> Vec<usize> {
@@ -33,20 +32,10 @@ pub fn aggregate(posts: &[Post]) -> Rounded {
     aggregate_of(posts, &parts_of(posts))
 }
 
-/// The aggregate of each year of a case.
-fn aggregates(case: &Case) -> Vec<Rounded> {
-    let years = case.years.iter();
-    years.map(|year| aggregate(&year.posts)).collect()
-}
-
 /// What a case gives whose frames are accepted.
 pub fn closed(case: &Case) -> Outcome {
-    let closed = case.close_with(&aggregates(case), case.final_year());
+    let years = case.years.iter();
+    let aggregates: Vec<Rounded> = years.map(|year| aggregate(&year.posts)).collect();
+    let closed = case.close_with(&aggregates, case.final_year());
     closed.unwrap_or_else(|refusal| Outcome::refused(refusal, 0))
-}
-
-/// Every step of a case whose frames are accepted.
-pub fn steps(case: &Case) -> Steps {
-    let worked = case.steps_with(&aggregates(case), case.final_year());
-    worked.unwrap_or_else(|refusal| Steps::refused(refusal, 0))
 }

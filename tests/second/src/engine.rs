@@ -1,6 +1,6 @@
 //! The engine's calls through its C interface.
 
-use crate::{Outcome, Steps};
+use crate::Outcome;
 
 #[repr(C)]
 struct Figure {
@@ -75,27 +75,22 @@ extern "C" {
         price_increase: u64,
     ) -> Charges;
     fn canyonsieve_case(text: *const u8, length: usize) -> CaseOutcome;
-    fn canyonsieve_steps(text: *const u8, length: usize) -> Steps;
-}
-
-/// The address of bytes; where there are none it is no address at all.
-fn address(bytes: &[u8]) -> *const u8 {
-    if bytes.is_empty() {
-        std::ptr::null()
-    } else {
-        bytes.as_ptr()
-    }
 }
 
 /// The engine's posts call. Without bytes or without places it is given no address at all.
 pub fn posts(bytes: &[u8], places: &mut [u64]) -> (u64, u64) {
+    let posts = if bytes.is_empty() {
+        std::ptr::null()
+    } else {
+        bytes.as_ptr()
+    };
     let parts = if places.is_empty() {
         std::ptr::null_mut()
     } else {
         places.as_mut_ptr()
     };
     // SAFETY: the lengths are those of the slices, which do not overlap.
-    let figure = unsafe { canyonsieve_posts(address(bytes), bytes.len(), parts, places.len()) };
+    let figure = unsafe { canyonsieve_posts(posts, bytes.len(), parts, places.len()) };
     (figure.refusal, figure.number)
 }
 
@@ -165,16 +160,15 @@ pub fn change_of_employer(call: &[u64; 15]) -> (u64, (u64, u64)) {
     (given.refusal, (given.old_charge, given.new_charge))
 }
 
-/// The engine's steps call.
-pub fn steps(text: &[u8]) -> Steps {
-    // SAFETY: the length is that of the slice, and any words make such a struct.
-    unsafe { canyonsieve_steps(address(text), text.len()) }
-}
-
 /// The engine's case call.
 pub fn case(text: &[u8]) -> Outcome {
+    let bytes = if text.is_empty() {
+        std::ptr::null()
+    } else {
+        text.as_ptr()
+    };
     // SAFETY: the length is that of the slice.
-    let given = unsafe { canyonsieve_case(address(text), text.len()) };
+    let given = unsafe { canyonsieve_case(bytes, text.len()) };
     Outcome {
         refusal: given.refusal,
         line: given.line,

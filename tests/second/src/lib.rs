@@ -12,14 +12,11 @@
 //! Its programs: `second` prints the line of a text, as the case program does; `scripts` does the
 //! scripts of the engine's test programs; `rivals` tries rival workings against the engine's amounts;
 //! `compare` holds the engine against it; `documents` holds the documents against both and against
-//! the repository; `program` runs the case program; `sheets` runs the sheet program and prints the
-//! exercises. The engine's library is linked into all of them, so that none can run without it:
-//! `CANYONSIEVE_LIB_DIR` names the folder of `libcanyonsieve.a`.
+//! the repository; `program` runs the case program. The engine's library is linked into all of them,
+//! so that none can run without it: `CANYONSIEVE_LIB_DIR` names the folder of `libcanyonsieve.a`.
 //!
 //! `mistakes` has workings with one step wrong, for the examples that show them; `document_01` has the
-//! posts step as it was before supplements, for lists that have none. `steps` has every step of a case,
-//! `words` cases as people write them, and `sheet` the worksheet of a case, printed from its own working
-//! and not from the engine's.
+//! posts step as it was before supplements, for lists that have none.
 //!
 //! ```text
 //! CANYONSIEVE_LIB_DIR=.. cargo run --release --bin compare
@@ -32,26 +29,20 @@ pub mod changes;
 pub mod document_01;
 pub mod employers;
 pub mod engine;
-pub mod fractions;
 pub mod frames;
 pub mod mistakes;
 pub mod posts;
 pub mod random;
 pub mod roundings;
 pub mod samples;
-pub mod sheet;
-pub mod steps;
-pub mod tally;
 pub mod ten_pays;
 pub mod wide;
-pub mod words;
 
 pub use benefits::{abatement, charge};
 pub use calendar::months_early;
 pub use cases::{case, printed, Outcome};
 pub use employers::change_of_employer;
 pub use posts::{posts, records};
-pub use steps::{steps, Steps};
 
 /// The largest pay, supplement or pot in pence.
 pub const LARGEST_PAY: u64 = 1_000_000_000;

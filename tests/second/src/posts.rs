@@ -81,17 +81,6 @@ pub fn try_post(earlier: &[Post], post: &Post) -> Result<(), u64> {
     unless(!second, 8)
 }
 
-/// Whether a post has a supplement.
-pub fn has_supplement(posts: &[Post]) -> bool {
-    posts.iter().any(|post| post.supplement > 0)
-}
-
-/// Whether some post of a year without a whole-time post has fewer parts than its own minutes.
-pub fn is_cut(posts: &[Post]) -> bool {
-    let minutes = minutes_together(posts);
-    !posts.iter().any(Post::is_whole_time) && minutes * minutes > parts_together(posts)
-}
-
 /// H: the contracted minutes together, which is also the number of parts to a minute.
 pub fn minutes_together(posts: &[Post]) -> u64 {
     posts.iter().map(|post| post.contracted).sum()

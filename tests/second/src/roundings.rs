@@ -83,18 +83,6 @@ fn went(step: Step, given: Rounded) -> Rounding {
     (step, given.way)
 }
 
-/// What a year does to the 2015 pension.
-#[derive(Clone, Copy, Debug, PartialEq, Eq)]
-pub struct WorkedYear {
-    pub aggregate: Rounded,
-    /// The pension so far, revalued.
-    pub revalued: Rounded,
-    /// The 54th.
-    pub accrued: Rounded,
-    /// The pension after it.
-    pub pension: u64,
-}
-
 /// How many of the roundings went up.
 pub fn rounded_up(list: &[Rounding]) -> u64 {
     let upward = list.iter().filter(|(_, way)| *way == Way::Up);
@@ -162,35 +150,19 @@ impl Case {
         Ok(list)
     }
 
-    /// What each year does to the 2015 pension, of one aggregate for each.
-    pub fn worked_years(&self, aggregates: &[Rounded]) -> Vec<WorkedYear> {
-        let mut pension = 0;
-        let mut list = Vec::new();
-        for (year, &aggregate) in self.years.iter().zip(aggregates) {
-            let revalued = revalued(pension, year.revaluation);
-            let accrued = accrued(aggregate.number);
-            pension = revalued.number + accrued.number;
-            list.push(WorkedYear {
-                aggregate,
-                revalued,
-                accrued,
-                pension,
-            });
-        }
-        list
-    }
-
     /// Those of each year: its aggregate, the pension so far revalued, the 54th.
     fn year_roundings(&self, aggregates: &[Rounded]) -> Vec<Rounding> {
-        let of_year = |year: WorkedYear| {
-            [
-                went(Step::Aggregate, year.aggregate),
-                went(Step::Revaluation, year.revalued),
-                went(Step::Accrual, year.accrued),
-            ]
-        };
-        let years = self.worked_years(aggregates).into_iter();
-        years.flat_map(of_year).collect()
+        let mut list = Vec::new();
+        let mut pension = 0;
+        for (year, &aggregate) in self.years.iter().zip(aggregates) {
+            let so_far = revalued(pension, year.revaluation);
+            let added = accrued(aggregate.number);
+            list.push(went(Step::Aggregate, aggregate));
+            list.push(went(Step::Revaluation, so_far));
+            list.push(went(Step::Accrual, added));
+            pension = so_far.number + added.number;
+        }
+        list
     }
 
     /// Those of the section's pension.

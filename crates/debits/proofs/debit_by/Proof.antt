@@ -13,11 +13,14 @@ returns c = search tests
 pension_debit_requires : tie.Need-pension-debit-requires
 pension_debit_requires c κs = search rules
 
+upward_requires : tie.Need-upward-requires
+upward_requires c κs = search rules
+
 returns_2 : tie.Need-returns-2
 unfolding debit_by
 returns_2 c =
-    let debit = c.pension-debit.ensures in
-    rw (eq-eqb _ _ c.before.if1.false, ← debit.0, ← debit.1)
+    let debit = c.before.before in
+    rw (eq-eqb _ _ debit.before.if1.false, c.upward.ensures, ← debit.pension-debit.ensures.0, ← debit.pension-debit.ensures.1)
 
 pub debit_by_spec : {M : Type 1} → statement M
-debit_by_spec = tie.close (tie.spec returns pension_debit_requires returns_2)
+debit_by_spec = tie.close (tie.spec returns pension_debit_requires upward_requires returns_2)

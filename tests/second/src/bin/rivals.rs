@@ -8,8 +8,7 @@ use second::benefits::after_year;
 use second::cases::{Case, Year};
 use second::engine;
 use second::posts::{
-    filled, has_supplement, in_order, minutes_together, parts_of, parts_together, rival_aggregate,
-    Post,
+    filled, in_order, minutes_together, parts_of, parts_together, rival_aggregate, Post,
 };
 use second::random::Random;
 use second::samples::accepted;
@@ -116,6 +115,12 @@ impl Divisions {
     }
 }
 
+/// Whether a post of a year has a supplement.
+fn has_supplement(case: &Case) -> bool {
+    let mut posts = case.years.iter().flat_map(|year| &year.posts);
+    posts.any(|post| post.supplement > 0)
+}
+
 /// The nets of the engine's own division of each year, valued as a rival's.
 fn nets_of_own_parts(case: &Case) -> Nets {
     let worth = |year: &Year| {
@@ -164,7 +169,7 @@ fn try_every_rival(case: &Case) -> u128 {
         lump_sum: best_lump_sum,
     };
     let own = nets_of_own_parts(case);
-    if best != own || (best != given && !case.any_year(has_supplement)) {
+    if best != own || (best != given && !has_supplement(case)) {
         fail(&text, given, best);
     }
     count * final_years(case).count() as u128
@@ -275,7 +280,7 @@ struct Supplements {
 
 impl Supplements {
     fn add(&mut self, case: &Case) {
-        if case.any_year(has_supplement) {
+        if has_supplement(case) {
             self.with += 1;
         } else {
             self.without += 1;

@@ -490,8 +490,9 @@ pub fn whole_case_in(random: &mut Random, section: u64) -> Case {
     loop {
         let years_count = random.between(2, 4);
         let case = case_with(random, section, years_count);
+        let early = |scheme| case.months_early(scheme).map_or(false, |months| months > 0);
         let posts = case.years.iter().all(|year| !year.posts.is_empty());
-        if case.is_early(0) && case.is_early(1) && case.debits.len() == 2 && posts {
+        if early(0) && early(1) && case.debits.len() == 2 && posts {
             return case;
         }
     }

@@ -1,6 +1,5 @@
 //! Posts with supplements, with rare but telling shapes made common.
 
-use crate::fractions::greatest_common_divisor;
 use crate::posts::{Post, MOST_POSTS};
 use crate::random::Random;
 use crate::LARGEST_PAY;
@@ -46,6 +45,13 @@ fn posts_of_one_rate(random: &mut Random) -> Vec<Post> {
             }
         })
         .collect()
+}
+
+fn greatest_common_divisor(one: u64, other: u64) -> u64 {
+    match other {
+        0 => one,
+        _ => greatest_common_divisor(other, one % other),
+    }
 }
 
 /// The minutes of two posts, h and w of each, no two of them with a common divisor.

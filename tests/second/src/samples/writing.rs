@@ -2,17 +2,15 @@
 
 use crate::benefits::FinalPay;
 use crate::cases::Case;
-use crate::frames::{Debit, Factor, Frame, Member};
+use crate::frames::{Debit, Factor, Member};
 use crate::posts::Post;
 use crate::ten_pays::TenPays;
 
-/// A frame's bytes: its kind, then pairs of width and number. Of a number that is too large for its
-/// width the largest is written.
+/// A frame's bytes: its kind, then pairs of width and number.
 fn frame(kind: u8, fields: &[(usize, u64)]) -> Vec<u8> {
     let mut bytes = vec![kind];
     for &(width, number) in fields {
-        let largest = (1 << (8 * width)) - 1;
-        bytes.extend(&number.min(largest).to_be_bytes()[8 - width..]);
+        bytes.extend(&number.to_be_bytes()[8 - width..]);
     }
     bytes
 }
@@ -84,19 +82,6 @@ pub fn debit_frame(debit: &Debit) -> Vec<u8> {
         0x06,
         &[(1, debit.scheme), (4, debit.pot), (2, debit.factor)],
     )
-}
-
-/// The bytes of a frame of any kind.
-pub fn frame_bytes(frame: &Frame) -> Vec<u8> {
-    match frame {
-        Frame::Member(member) => member_frame(member),
-        Frame::Year { april, revaluation } => year_frame(*april, *revaluation),
-        Frame::Post(post) => post_frame(post),
-        Frame::FinalPay(final_pay) => final_pay_frame(final_pay),
-        Frame::TenPays(ten_pays) => ten_pays_frame(ten_pays),
-        Frame::Factor(factor) => factor_frame(factor),
-        Frame::Debit(debit) => debit_frame(debit),
-    }
 }
 
 /// The posts of a list as the posts call takes them.

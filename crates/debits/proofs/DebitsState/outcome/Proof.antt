@@ -10,7 +10,7 @@ amounts_requires c κs = search rules
 net_requires : tie.Need-net-requires
 net_requires c κs =
     let s = c.before in
-    (s.requires.1, rw c.amounts.ensures (debits_ups s.args.section s.args.self), s.requires.2)
+    (s.requires.1, rw c.amounts.ensures (debits_ups s.args.section s.args.self s.requires.0), s.requires.2)
 
 returns : tie.Need-returns
 returns c = rw (← c.before.amounts.ensures) c.net.ensures

@@ -1,28 +1,31 @@
--- `section::SectionState::earned` meets its contract: the amounts of the steps, and all upward roundings.
+-- `section::SectionState::earned` meets its contract: the lump sum goes with the pension, and all upward roundings are counted.
 use native.Mathlib.Omega.{arith}
-use Rattle.measures.proofs.Rounding.{upward_most}
 use Rattle.section.specs.Section.{earned_of}
+use Rattle.section.proofs.Section.{earned_limit, earned_ups}
 use borrow.Author.Rules.{rules}
 use Rattle.section.proofs.SectionState.earned.Statement.{statement}
 use Rattle.section.proofs.SectionState.earned.Tie as tie
 
-steps_requires : tie.Need-steps-requires
-steps_requires c κs = search rules
+pension_requires : tie.Need-pension-requires
+pension_requires c κs = search rules
 
-upward_of_two_requires : tie.Need-upward-of-two-requires
-upward_of_two_requires c κs = search rules
+lump_earned_requires : tie.Need-lump-earned-requires
+lump_earned_requires c κs =
+    let s = c.before.before.before in
+    omega (arith, c.before.pension.ensures.0, earned_limit _ s.requires.0 s.args.section)
 
-add_t13 : tie.Need-overflow-add-t13
-add_t13 c =
-    let own = c.before.before.before.before.before.before in
+add_t8 : tie.Need-overflow-add-t8
+add_t8 c =
+    let own = c.before.before.before.before in
     let s = own.before.before in
-    omega (arith, c.before.upward-of-two.ensures, upward_most own.steps.result.pay.way, upward_most own.steps.result.pension.way, s.requires.1)
+    omega (arith, own.pension.ensures.1, s.requires.1, earned_ups _ s.requires.0 s.args.section)
 
 returns : tie.Need-returns
 unfolding earned_of
 returns c =
-    let own = c.before.before.before.before.before.before in
-    rw (← own.steps.ensures, c.before.upward-of-two.ensures)
+    let lump = c.before.before in
+    let own = lump.before.before.pension.ensures in
+    rw (← own.0, ← own.1, ← lump.lump-earned.ensures)
 
 pub earned_spec : {M : Type 1} → statement M
-earned_spec = tie.close (tie.spec steps_requires upward_of_two_requires add_t13 returns)
+earned_spec = tie.close (tie.spec pension_requires lump_earned_requires add_t8 returns)

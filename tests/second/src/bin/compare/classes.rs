@@ -4,8 +4,14 @@ use second::benefits::FinalPay;
 use second::calendar::{completed_by_last_day, dates_of, months_early};
 use second::cases::{Case, Year};
 use second::frames::Member;
-use second::posts::{is_cut, minutes_together, parts_of, parts_together, Post};
+use second::posts::{minutes_together, parts_of, parts_together, Post};
 use std::cmp::Ordering;
+
+/// Whether some post of a year without a whole-time post has fewer parts than its own minutes.
+pub fn is_cut(posts: &[Post]) -> bool {
+    let minutes = minutes_together(posts);
+    !posts.iter().any(Post::is_whole_time) && minutes * minutes > parts_together(posts)
+}
 
 /// Whether two posts have the same rate, which is not nought.
 fn of_equal_rates(one: &Post, other: &Post) -> bool {
@@ -127,6 +133,14 @@ fn cut_years(case: &Case) -> usize {
     case.years.iter().filter(cut).count()
 }
 
+pub fn any_year(case: &Case, test: fn(&[Post]) -> bool) -> bool {
+    case.years.iter().any(|year| test(&year.posts))
+}
+
+pub fn early(case: &Case, scheme: u64) -> bool {
+    case.months_early(scheme).map_or(false, |months| months > 0)
+}
+
 /// Whether retirement is on the last day of a month too short for the birth day.
 pub fn by_last_day(case: &Case) -> bool {
     let completed = |member: Member| completed_by_last_day(member.birth, member.retirement);
@@ -214,20 +228,20 @@ pub const CASE_CLASSES: &[Test<Case>] = &[
     ("several years of which more are cut", 1_000, |case| {
         case.years.len() > 1 && cut_years(case) > 1
     }),
-    ("equal rates", 1_000, |case| case.any_year(has_equal_rates)),
+    ("equal rates", 1_000, |case| any_year(case, has_equal_rates)),
     ("equal rates of which one is cut", 1_000, |case| {
-        case.any_year(cut_decides_between_equals)
+        any_year(case, cut_decides_between_equals)
     }),
     ("a year with most posts of one h", 1_000, |case| {
-        case.any_year(mostly_of_one_contract)
+        any_year(case, mostly_of_one_contract)
     }),
     (
         "a year with most posts of one h, of two alike one cut",
         1_000,
-        |case| case.any_year(cut_on_one_contract),
+        |case| any_year(case, cut_on_one_contract),
     ),
     ("a whole-time post past the weighted week", 1_000, |case| {
-        case.any_year(passes_week)
+        any_year(case, passes_week)
     }),
     ("a later year without posts", 1_000, |case| {
         case.years.iter().skip(1).any(|year| year.posts.is_empty())
@@ -237,13 +251,13 @@ pub const CASE_CLASSES: &[Test<Case>] = &[
     (
         "the 1995 Section with both factors and both debits",
         1_000,
-        |case| in_1995(case) && case.is_early(0) && case.is_early(1) && debited(case, &[0, 1]),
+        |case| in_1995(case) && early(case, 0) && early(case, 1) && debited(case, &[0, 1]),
     ),
     ("early in the 2015 Scheme alone", 1_000, |case| {
-        in_1995(case) && case.is_early(0) && !case.is_early(1)
+        in_1995(case) && early(case, 0) && !early(case, 1)
     }),
     ("early in the 1995 Section alone", 200, |case| {
-        in_1995(case) && !case.is_early(0) && case.is_early(1)
+        in_1995(case) && !early(case, 0) && early(case, 1)
     }),
     ("months early nought", 500, |case| {
         case.months_early(0) == Some(0)
@@ -258,10 +272,10 @@ pub const CASE_CLASSES: &[Test<Case>] = &[
         case.months_early(0) == Some(-1)
     }),
     ("a 2015 factor by a short month's last day", 1_000, |case| {
-        case.is_early(0) && by_last_day(case)
+        early(case, 0) && by_last_day(case)
     }),
     ("a 1995 factor by a short month's last day", 1_000, |case| {
-        in_1995(case) && case.is_early(1) && by_last_day(case)
+        in_1995(case) && early(case, 1) && by_last_day(case)
     }),
     (
         "months early nought by a short month's last day",

@@ -4,8 +4,8 @@
 mod classes;
 mod employers;
 mod roundings;
-mod steps;
 mod supplements;
+mod tally;
 mod ten_pays;
 
 use classes::{
@@ -27,12 +27,11 @@ use second::samples::employers::{any_change_call, change_call, CHANGE_CAUSES};
 use second::samples::roundings::case_going_up;
 use second::samples::writing::{case_text, post_records};
 use second::samples::{accepted, writing};
-use second::tally::Tally;
 use second::{document_01, engine};
 use std::fmt::Debug;
 use std::process::exit;
-use steps::{compare_steps, expect_steps};
 use supplements::{SUPPLEMENT_CASE_CLASSES, SUPPLEMENT_CLASSES};
+use tally::Tally;
 use ten_pays::TEN_PAYS_CLASSES;
 
 const SEED: u64 = 0x0001_9950_0002_0150;
@@ -113,14 +112,13 @@ fn cause_words(call: &str, refusal: u64, words: &str) -> String {
     format!("{call} refused by {refusal}: {words}")
 }
 
-/// Compares one text, by its steps too, and gives its refusal and line.
+/// Compares one text and gives its refusal and line.
 fn compare_case(tally: &mut Tally, text: &[u8]) -> (u64, u64) {
     let expected = second::case(text);
     let given = engine::case(text);
     if given != expected {
         fail(CASE, &hexadecimal(text), given, expected);
     }
-    compare_steps(tally, text, &given, &second::steps(text));
     tally.add(ALL_INPUTS);
     tally.add("inputs of the case call");
     if expected.refusal == 0 {
@@ -153,8 +151,6 @@ fn compare_plain_case(tally: &mut Tally, mut case: Case) {
     if given != expected {
         fail(PLAIN_CASES, &hexadecimal(&text), given, expected);
     }
-    let steps = document_01::steps(&case);
-    compare_steps(tally, &text, &given, &steps);
     tally.add(ALL_INPUTS);
     tally.add(PLAIN_CASES);
     if expected.refusal == 0 {
@@ -417,7 +413,6 @@ fn expected() -> Tally {
     expect_classes(&mut tally, CASE, SUPPLEMENT_CASE_CLASSES);
     tally.expect(PLAIN_CASES, CASES);
     tally.expect(ACCEPTED_PLAIN_CASES, 50_000);
-    expect_steps(&mut tally);
     expect_classes(&mut tally, CASE, COUNT_CLASSES);
     expect_roundings(&mut tally, CASE);
     tally.expect("case: refused at a line above 255", 50);

@@ -1,12 +1,13 @@
 //! The classes of accepted cases by their roundings: each step that rounds gone each way, and counts of
 //! upward ones.
 
-use crate::classes::Test;
+use crate::classes::{any_year, Test};
+use crate::supplements::has_supplement;
+use crate::tally::Tally;
 use second::benefits::reduced;
 use second::cases::Case;
-use second::posts::{aggregate, has_supplement, parts_of, rival_aggregate, Post};
+use second::posts::{aggregate, parts_of, rival_aggregate, Post};
 use second::roundings::{rounded_up, Rounding, Step};
-use second::tally::Tally;
 use second::ten_pays::TenPays;
 use second::wide::{Rounded, Way};
 
@@ -169,19 +170,19 @@ pub const COUNT_CLASSES: &[Test<Listed>] = &[
     (
         "an aggregate with a supplement alone rounded up",
         100,
-        |listed| listed.up_alone(&[Step::Aggregate]) && listed.case.any_year(up_with_supplement),
+        |listed| listed.up_alone(&[Step::Aggregate]) && any_year(&listed.case, up_with_supplement),
     ),
     (
         "an aggregate up, or not, by p + s of full posts",
         1_000,
-        |listed| listed.case.any_year(up_by_full_posts),
+        |listed| any_year(&listed.case, up_by_full_posts),
     ),
     (
         "all but one rounded up, years with supplements among them",
         100,
         |listed| {
             listed.count() + 1 == listed.list.len() as u64
-                && listed.case.any_year(up_with_supplement)
+                && any_year(&listed.case, up_with_supplement)
         },
     ),
     (

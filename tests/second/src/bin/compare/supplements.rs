@@ -1,11 +1,10 @@
 //! The classes of accepted lists of posts, and of cases, by their supplements.
 
-use crate::classes::{cut_decides_between, Test};
+use crate::classes::{any_year, cut_decides_between, is_cut, Test};
 use second::cases::Case;
 use second::document_01::by_pay_a_minute;
 use second::posts::{
-    aggregate, has_supplement, in_order, is_cut, minutes_together, parts_by, parts_of,
-    rival_aggregate, Post, MOST_POSTS,
+    aggregate, in_order, minutes_together, parts_by, parts_of, rival_aggregate, Post, MOST_POSTS,
 };
 use second::wide::Way;
 use second::LARGEST_PAY;
@@ -13,6 +12,10 @@ use std::cmp::Ordering;
 
 fn supplemented(post: &Post) -> bool {
     post.supplement > 0
+}
+
+pub fn has_supplement(posts: &[Post]) -> bool {
+    posts.iter().any(supplemented)
 }
 
 fn all_have(posts: &[Post]) -> bool {
@@ -296,52 +299,60 @@ pub const SUPPLEMENT_CLASSES: &[Test<Vec<Post>>] = &[
 fn in_some_years(case: &Case) -> bool {
     let mut years = case.years.iter();
     let without = years.any(|year| !year.posts.is_empty() && !has_supplement(&year.posts));
-    without && case.any_year(has_supplement)
+    without && any_year(case, has_supplement)
 }
 
 /// The classes of accepted cases.
 pub const SUPPLEMENT_CASE_CLASSES: &[Test<Case>] = &[
     ("no supplement", 10_000, |case| {
-        !case.any_year(has_supplement)
+        !any_year(case, has_supplement)
     }),
-    ("a supplement", 20_000, |case| case.any_year(has_supplement)),
+    ("a supplement", 20_000, |case| {
+        any_year(case, has_supplement)
+    }),
     (
         "a year with a supplement and one without",
         10_000,
         in_some_years,
     ),
     ("supplements to all posts of a year", 10_000, |case| {
-        case.any_year(all_have)
+        any_year(case, all_have)
     }),
     ("a supplement of 1", 1_000, |case| {
-        case.any_year(|posts| has_one_of(posts, 1))
+        any_year(case, |posts| has_one_of(posts, 1))
     }),
     ("a supplement of 1,000,000,000", 1_000, |case| {
-        case.any_year(|posts| has_one_of(posts, LARGEST_PAY))
+        any_year(case, |posts| has_one_of(posts, LARGEST_PAY))
     }),
     ("a whole-time post with a supplement", 1_000, |case| {
-        case.any_year(on_whole_time)
+        any_year(case, on_whole_time)
     }),
     (
         "a curtailed post and a full one, both with a supplement",
         1_000,
         |case| {
-            case.any_year(|posts| on_post_with(posts, Had::Some) && on_post_with(posts, Had::All))
+            any_year(case, |posts| {
+                on_post_with(posts, Had::Some) && on_post_with(posts, Had::All)
+            })
         },
     ),
     ("the order of posts decides an aggregate", 1_000, |case| {
-        case.any_year(order_decides)
+        any_year(case, order_decides)
     }),
     ("products apart by one, the higher first", 500, |case| {
-        case.any_year(|posts| near_products(posts, Ordering::Greater, by_one))
+        any_year(case, |posts| {
+            near_products(posts, Ordering::Greater, by_one)
+        })
     }),
     ("products apart by one, the higher later", 500, |case| {
-        case.any_year(|posts| near_products(posts, Ordering::Less, by_one))
+        any_year(case, |posts| near_products(posts, Ordering::Less, by_one))
     }),
     ("a year of sixteen posts at all limits", 50, |case| {
-        case.any_year(|posts| all_at_limits(posts, 630) || all_at_limits(posts, 10_079))
+        any_year(case, |posts| {
+            all_at_limits(posts, 630) || all_at_limits(posts, 10_079)
+        })
     }),
     ("p + s of full posts decides", 5_000, |case| {
-        case.any_year(full_posts_decide)
+        any_year(case, full_posts_decide)
     }),
 ];

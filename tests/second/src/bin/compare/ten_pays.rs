@@ -1,6 +1,6 @@
 //! The classes of accepted cases of the 2008 Section.
 
-use crate::classes::{by_last_day, debited, used_up, Test};
+use crate::classes::{by_last_day, debited, early, used_up, Test};
 use second::cases::Case;
 use second::ten_pays::{TenPays, MOST_DAYS};
 use second::wide::rounded;
@@ -163,13 +163,13 @@ pub const TEN_PAYS_CLASSES: &[Test<Case>] = &[
         pays(case, |given| given.days == MOST_DAYS)
     }),
     ("2008, early in both", 1_000, |case| {
-        in_2008(case) && case.is_early(0) && case.is_early(1)
+        in_2008(case) && early(case, 0) && early(case, 1)
     }),
     ("2008, early in the 2015 Scheme alone", 500, |case| {
-        in_2008(case) && case.is_early(0) && !case.is_early(1)
+        in_2008(case) && early(case, 0) && !early(case, 1)
     }),
     ("2008, early in the section alone", 500, |case| {
-        in_2008(case) && !case.is_early(0) && case.is_early(1)
+        in_2008(case) && !early(case, 0) && early(case, 1)
     }),
     ("2008, early at 60 or later", 1_000, |case| {
         months_2008(case).map_or(false, |months| (1..=60).contains(&months))
@@ -187,10 +187,10 @@ pub const TEN_PAYS_CLASSES: &[Test<Case>] = &[
         months_2008(case) == Some(-1)
     }),
     ("2008, a factor by a short month's last day", 500, |case| {
-        in_2008(case) && case.is_early(1) && by_last_day(case)
+        in_2008(case) && early(case, 1) && by_last_day(case)
     }),
     ("2008, both factors and both debits", 1_000, |case| {
-        in_2008(case) && case.is_early(0) && case.is_early(1) && debited(case, &[0, 1])
+        in_2008(case) && early(case, 0) && early(case, 1) && debited(case, &[0, 1])
     }),
     ("2008, its debit alone", 1_000, |case| {
         in_2008(case) && debited(case, &[1])
@@ -200,6 +200,6 @@ pub const TEN_PAYS_CLASSES: &[Test<Case>] = &[
         in_2008(case) && used_up(case)[1]
     }),
     ("2008, a debit equal to the reduced pension", 500, |case| {
-        in_2008(case) && case.is_early(1) && used_up(case)[1]
+        in_2008(case) && early(case, 1) && used_up(case)[1]
     }),
 ];
