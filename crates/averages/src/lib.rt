@@ -12,7 +12,7 @@ use measures::{HIGHEST_PAY, Pence, Stepped, in_pence, rounded, scaled, upward};
 const FULL_SERVICE: u64 = 21900;
 
 // The eleven numbers of a ten pays frame: the pays of years 10 to 1, year 1 the last; service days.
-#[derive(Drop)]
+#[derive(Clone, Copy)]
 pub struct TenPays {
     pub pay10: Pence,
     pub pay9: Pence,
@@ -28,7 +28,7 @@ pub struct TenPays {
 }
 
 // The pay of three consecutive years together, and the last of these years.
-#[derive(Drop)]
+#[derive(Clone, Copy)]
 pub struct Three {
     pub sum: Pence,
     pub year: u64,
@@ -36,7 +36,7 @@ pub struct Three {
 
 // What a case holds of ten pays: their average pay, the year in which its three years end, the service days,
 // and 1 where the average was rounded up, else 0.
-#[derive(Drop)]
+#[derive(Clone, Copy)]
 pub struct AveragePay {
     pub pay: Pence,
     pub year: u64,

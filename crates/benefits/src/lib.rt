@@ -41,7 +41,7 @@ const LUMP_TIMES: u64 = 3;
 
 // The ten numbers of a final pay frame: the pays of years 4 to 1, year 1 the last; allowances in
 // thousandths; controls, bits 0, 1, 2 for years 3, 2, 1; service days; the factor in hundredths.
-#[derive(Drop)]
+#[derive(Clone, Copy)]
 pub struct FinalPay {
     pub pay4: Pence,
     pub pay3: Pence,
@@ -56,14 +56,14 @@ pub struct FinalPay {
 }
 
 // Final pay with its year.
-#[derive(Drop)]
+#[derive(Clone, Copy)]
 pub struct BestPay {
     pub pay: Pence,
     pub year: u64,
 }
 
 // The allowed pays of years 3, 2 and 1, each with the way that it was rounded.
-#[derive(Drop)]
+#[derive(Clone, Copy)]
 pub struct AllowedPays {
     pub year3: Stepped,
     pub year2: Stepped,

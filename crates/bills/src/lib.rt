@@ -7,7 +7,7 @@ pub use employers::change_call;
 
 // One change of employer in year 2: each employer's pay and days in that year, and the final year's price increase in
 // thousandths.
-#[derive(Drop)]
+#[derive(Clone, Copy)]
 pub struct Change {
     pub old_pay: Pence,
     pub old_days: u64,

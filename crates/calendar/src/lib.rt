@@ -1,4 +1,6 @@
 // Dates, and months early: the months from retirement to pension age.
+#![tactic(auto)]
+
 ghost use Rattle.std.specs.Prelude.{◌≡◌, ◌≤◌, pos};
 ghost use Rattle.calendar.specs.Dates.{is_leap, month_length, date_stands, is_before, dates_refusal, completing_day, completed_months, months_early, months_of, refusal_given, months_given, dates_number};
 ghost use Rattle.calendar.specs.Ranges.{Bounded, AnswerBounded, Accepted};
@@ -6,7 +8,7 @@ ghost use Rattle.calendar.specs.Ranges.{Bounded, AnswerBounded, Accepted};
 use measures::Months;
 
 // A day of the calendar.
-#[derive(Drop)]
+#[derive(Clone, Copy)]
 pub struct Date {
     pub year: u64,
     pub month: u64,
@@ -14,14 +16,14 @@ pub struct Date {
 }
 
 // Retirement before pension age by these months, 1 or more; or at it or after it, by 0 or more.
-#[derive(Drop)]
+#[derive(Clone, Copy)]
 pub enum MonthsEarly {
     Early(Months),
     Late(Months),
 }
 
 // What the dates call gives: the months early, or the number of its refusal.
-#[derive(Drop)]
+#[derive(Clone, Copy)]
 pub enum DatesAnswer {
     Months(MonthsEarly),
     Refused(u64),

@@ -23,7 +23,7 @@ use texts::work_text;
 
 // A refusal, 0 for none, and the number beside it, 0 when refused.
 #[repr(C)]
-#[derive(Drop)]
+#[derive(Clone, Copy)]
 pub struct Figure {
     pub refusal: u64,
     pub number: u64,
@@ -31,7 +31,7 @@ pub struct Figure {
 
 // A refusal, 0 for none, and the months early beside it, 0 when refused, below 0 for months late.
 #[repr(C)]
-#[derive(Drop)]
+#[derive(Clone, Copy)]
 pub struct MonthsFigure {
     pub refusal: u64,
     pub months: i64,
@@ -39,7 +39,7 @@ pub struct MonthsFigure {
 
 // A refusal, 0 for none, and the charges of the old and the new employer beside it, 0 when refused.
 #[repr(C)]
-#[derive(Drop)]
+#[derive(Clone, Copy)]
 pub struct ChargeFigures {
     pub refusal: u64,
     pub old_charge: u64,
@@ -48,7 +48,7 @@ pub struct ChargeFigures {
 
 // A refusal with its line, 0 for none, and the amounts in pence with the count of upward roundings, all 0 when refused.
 #[repr(C)]
-#[derive(Drop)]
+#[derive(Clone, Copy)]
 pub struct CaseFigures {
     pub refusal: u64,
     pub line: u64,

@@ -11,7 +11,7 @@ mod taking;
 
 // A running case: the member, the stage that its frames have come to, and what it holds of the frames of each section of document 01.
 // A case of any length is of one size.
-#[derive(Drop)]
+#[derive(Clone, Copy)]
 pub struct Case {
     stage: u64,
     member: Member,
@@ -22,7 +22,7 @@ pub struct Case {
 }
 
 // The case after a frame, and the refusal of the frame, 0 for none.
-#[derive(Drop)]
+#[derive(Clone, Copy)]
 pub struct Taken {
     pub case: Case,
     pub refusal: u64,

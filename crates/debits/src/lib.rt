@@ -10,7 +10,7 @@ use measures::{Counted, Pence, upward};
 use rules::{Amounts, Outcome, Refusal, SchemeAmounts};
 
 // The pension debit of each scheme, with 1 where it was rounded up, and the lowest scheme that an 06 may now have: 0 before the first, then one above the previous one's.
-#[derive(Drop)]
+#[derive(Clone, Copy)]
 pub struct DebitsState {
     next: u64,
     pension2015: Counted,
@@ -18,7 +18,7 @@ pub struct DebitsState {
 }
 
 // The debits after a frame, and the refusal of the frame, 0 for none.
-#[derive(Drop)]
+#[derive(Clone, Copy)]
 pub struct DebitsTaken {
     pub debits: DebitsState,
     pub refusal: u64,

@@ -14,14 +14,14 @@ use measures::{Months, Pence, Stepped, Way, upward, upward_of_two};
 use rules::SchemeAmounts;
 
 // The scheme and the months of the previous 05, noughts before the first.
-#[derive(Drop)]
+#[derive(Clone, Copy)]
 pub struct PreviousFactor {
     scheme: u64,
     months: Months,
 }
 
 // The factors of the 05 for exactly the months early, where one was found.
-#[derive(Drop)]
+#[derive(Clone, Copy)]
 pub struct FoundFactor {
     found: bool,
     pension: u64,
@@ -29,7 +29,7 @@ pub struct FoundFactor {
 }
 
 // What depends on the date of retirement: months early in each scheme, 0 where it is not early, and the factors found for them.
-#[derive(Drop)]
+#[derive(Clone, Copy)]
 pub struct Dated {
     early2015: Months,
     early1995: Months,
@@ -38,14 +38,14 @@ pub struct Dated {
 }
 
 // The previous 05, and what depends on the date of retirement.
-#[derive(Drop)]
+#[derive(Clone, Copy)]
 pub struct FactorsState {
     previous: PreviousFactor,
     dated: Dated,
 }
 
 // The factors after a frame, and the refusal of the frame, 0 for none.
-#[derive(Drop)]
+#[derive(Clone, Copy)]
 pub struct FactorsTaken {
     pub factors: FactorsState,
     pub refusal: u64,

@@ -15,7 +15,7 @@ pub use limits::{debit_refusal, factor_refusal, member_refusal, year_stands};
 pub const LONGEST_FRAME: usize = 43;
 
 // A member: birth and retirement, the section (0 none, 1 the 1995, 2 the 2008), the member's own pension age in years, and that of the section.
-#[derive(Drop)]
+#[derive(Clone, Copy)]
 pub struct Member {
     pub birth: Date,
     pub retirement: Date,
@@ -25,14 +25,14 @@ pub struct Member {
 }
 
 // A year: the calendar year of its 1 April, and its revaluation in ten-thousandths.
-#[derive(Drop)]
+#[derive(Clone, Copy)]
 pub struct Year {
     pub april: u64,
     pub revaluation: u64,
 }
 
 // The factors of a scheme (0 the 2015, 1 the member's section) for so many months early, in thousandths.
-#[derive(Drop)]
+#[derive(Clone, Copy)]
 pub struct Factor {
     pub scheme: u64,
     pub months: Months,
@@ -41,7 +41,7 @@ pub struct Factor {
 }
 
 // A Scheme Pays debit on a scheme: its pot, and its factor in hundredths.
-#[derive(Drop)]
+#[derive(Clone, Copy)]
 pub struct Debit {
     pub scheme: u64,
     pub pot: Pence,
@@ -49,7 +49,7 @@ pub struct Debit {
 }
 
 // A frame, one of the seven kinds.
-#[derive(Drop)]
+#[derive(Clone, Copy)]
 pub enum Frame {
     Member(Member),
     Year(Year),
@@ -61,7 +61,7 @@ pub enum Frame {
 }
 
 // What bytes decode to: a frame, or the number of their refusal.
-#[derive(Drop)]
+#[derive(Clone, Copy)]
 pub enum Decoded {
     Frame(Frame),
     Refused(u64),

@@ -1,4 +1,6 @@
 // Products that pass 64 bits, carried in two halves.
+#![tactic(auto)]
+
 ghost use Rattle.std.specs.Prelude.{◌≡◌, ◌*◌, ◌^◌, ◌≤◌, ◌<◌, ltb};
 ghost use Rattle.measures.specs.Rounding.{rounded, way};
 ghost use Rattle.halves.specs.Halves.{value_of, Carried};
@@ -12,7 +14,7 @@ const HALF: u64 = 4294967296;
 const SPLIT: u64 = 65536;
 
 // A number of up to 96 bits: the upper half times 2^32, and the lower half.
-#[derive(Drop)]
+#[derive(Clone, Copy)]
 pub struct Halves {
     pub upper: u64,
     pub lower: u64,

@@ -13,7 +13,7 @@ pub use spelling::spelled;
 const MOST_TRIES: u64 = 18446744073709551615;
 
 // What was read: the number of bytes to work, and whether a read failed.
-#[derive(Drop)]
+#[derive(Clone, Copy)]
 pub struct Reading {
     pub count: usize,
     pub failed: bool,

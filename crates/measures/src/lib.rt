@@ -1,4 +1,6 @@
 // The measures of a pension case, what a call apart gives, and the rounding that every step shares.
+#![tactic(auto)]
+
 ghost use Rattle.std.specs.Prelude.{◌≡◌, ◌+◌, ◌*◌, ◌^◌, ◌<◌};
 ghost use Rattle.measures.specs.Rounding.{rounded, way, upward};
 
@@ -9,40 +11,40 @@ pub const HIGHEST_PAY: u64 = 1000000000;
 pub const HIGHEST_SUPPLEMENT: u64 = 1000000000;
 
 // A time under contract, in minutes.
-#[derive(Drop)]
+#[derive(Clone, Copy)]
 pub struct Minutes(pub u64);
 
 // A time between two dates, in whole months.
-#[derive(Drop)]
+#[derive(Clone, Copy)]
 pub struct Months(pub u64);
 
 // An amount of money, in pence.
-#[derive(Drop)]
+#[derive(Clone, Copy)]
 pub struct Pence(pub u64);
 
 // What a call apart from a case gives: an amount, or the number of its refusal.
-#[derive(Drop)]
+#[derive(Clone, Copy)]
 pub enum Answer {
     Amount(Pence),
     Refused(u64),
 }
 
 // The two amounts of a call that has two.
-#[derive(Drop)]
+#[derive(Clone, Copy)]
 pub struct TwoAmounts {
     pub one: Pence,
     pub other: Pence,
 }
 
 // What such a call gives: both amounts, or the number of its refusal.
-#[derive(Drop)]
+#[derive(Clone, Copy)]
 pub enum AnswerOfTwo {
     Amounts(TwoAmounts),
     Refused(u64),
 }
 
 // Which way a rounding went.
-#[derive(Drop)]
+#[derive(Clone, Copy)]
 pub enum Way {
     Exact,
     Down,
@@ -50,21 +52,21 @@ pub enum Way {
 }
 
 // A number that was rounded, and which way it went.
-#[derive(Drop)]
+#[derive(Clone, Copy)]
 pub struct Nearest {
     pub number: u64,
     pub way: Way,
 }
 
 // An amount that was rounded, and which way it went.
-#[derive(Drop)]
+#[derive(Clone, Copy)]
 pub struct Stepped {
     pub amount: Pence,
     pub way: Way,
 }
 
 // An amount, and how many of the roundings on the way to it went up.
-#[derive(Drop)]
+#[derive(Clone, Copy)]
 pub struct Counted {
     pub amount: Pence,
     pub ups: u64,

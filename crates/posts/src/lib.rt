@@ -1,4 +1,6 @@
 // The posts of a year: their rates, the parts that each gets, and the aggregate pay.
+#![tactic(auto)]
+
 use measures::{Minutes, Pence, Way};
 
 mod call;
@@ -24,7 +26,7 @@ pub const BYTES_OF_POST: usize = 12;
 pub const LONGEST_WEEK: u64 = 10080;
 
 // A post: contracted minutes, whole-time minutes, yearly pay, and the yearly supplement for hours worked.
-#[derive(Drop)]
+#[derive(Clone, Copy)]
 pub struct Post {
     pub contracted: Minutes,
     pub whole: Minutes,
@@ -33,7 +35,7 @@ pub struct Post {
 }
 
 // How one rate of pay, or one pay, compares with another.
-#[derive(Drop)]
+#[derive(Clone, Copy)]
 pub enum Comparison {
     Higher,
     Lower,
@@ -42,7 +44,7 @@ pub enum Comparison {
 
 // The posts of a year, and beside them their ranking, H, K and how many of them are whole-time. The ranking is held as the contracted
 // minutes of the posts that go before each post: one goes before another exactly where it has fewer of them (`ranking_held`).
-#[derive(Drop)]
+#[derive(Clone, Copy)]
 pub struct YearPosts {
     list: [Post; MOST_POSTS],
     ranking: [Minutes; MOST_POSTS],
@@ -53,21 +55,21 @@ pub struct YearPosts {
 }
 
 // The places of a year's posts, and of their ranking.
-#[derive(Drop)]
+#[derive(Clone, Copy)]
 struct Places {
     list: [Post; MOST_POSTS],
     ranking: [Minutes; MOST_POSTS],
 }
 
 // A year after a change was tried, and the refusal beside it, 0 for none. Refused, the year is as it was.
-#[derive(Drop)]
+#[derive(Clone, Copy)]
 pub struct Changed {
     pub year: YearPosts,
     pub refusal: u64,
 }
 
 // The parts of each post, the aggregate pay, and which way that was rounded.
-#[derive(Drop)]
+#[derive(Clone, Copy)]
 pub struct Allocation {
     pub parts: [u64; MOST_POSTS],
     pub aggregate: Pence,

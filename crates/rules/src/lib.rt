@@ -2,7 +2,7 @@
 use measures::Pence;
 
 // The amounts of a worked case, and how many of the roundings on the way to them went up.
-#[derive(Drop)]
+#[derive(Clone, Copy)]
 pub struct Amounts {
     pub net_2015: Pence,
     pub net_1995: Pence,
@@ -13,7 +13,7 @@ pub struct Amounts {
 
 // An amount for each benefit, the pensions of both schemes and the lump sum, and how many of the roundings on the way
 // to them went up.
-#[derive(Drop)]
+#[derive(Clone, Copy)]
 pub struct SchemeAmounts {
     pub pension2015: Pence,
     pub pension1995: Pence,
@@ -22,14 +22,14 @@ pub struct SchemeAmounts {
 }
 
 // A refusal: its number, and the line of a text, 0 for no line.
-#[derive(Drop)]
+#[derive(Clone, Copy)]
 pub struct Refusal {
     pub number: u64,
     pub line: u64,
 }
 
 // What a case comes to.
-#[derive(Drop)]
+#[derive(Clone, Copy)]
 pub enum Outcome {
     Worked(Amounts),
     Refused(Refusal),

@@ -14,7 +14,7 @@ use measures::{Counted, Pence, upward};
 use rules::SchemeAmounts;
 
 // Whether the section's pay frame was taken, and what is held of it: the 04, or the average of the 08; noughts otherwise.
-#[derive(Drop)]
+#[derive(Clone, Copy)]
 pub struct SectionState {
     given: bool,
     pay: FinalPay,
@@ -22,7 +22,7 @@ pub struct SectionState {
 }
 
 // The section after a frame, and the refusal of the frame, 0 for none.
-#[derive(Drop)]
+#[derive(Clone, Copy)]
 pub struct SectionTaken {
     pub section: SectionState,
     pub refusal: u64,

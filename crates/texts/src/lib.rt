@@ -15,7 +15,7 @@ const PRINTED_DIGITS: usize = 70;
 const PRINTED_BYTES: usize = PRINTED_DIGITS + 1;
 
 // A printed line: the first `count` of its bytes.
-#[derive(Drop)]
+#[derive(Clone, Copy)]
 pub struct PrintedLine {
     pub bytes: [u8; PRINTED_BYTES],
     pub count: usize,

@@ -12,7 +12,7 @@ const MOST_YEARS: u64 = 50;
 
 // The years so far: how many, the April year and the revaluation of the last, the pension before the last with the count of
 // its upward roundings, and the posts of the last.
-#[derive(Drop)]
+#[derive(Clone, Copy)]
 pub struct YearsState {
     count: u64,
     april: u64,
@@ -23,7 +23,7 @@ pub struct YearsState {
 }
 
 // The years after a frame, and the refusal of the frame, 0 for none.
-#[derive(Drop)]
+#[derive(Clone, Copy)]
 pub struct YearsTaken {
     pub years: YearsState,
     pub refusal: u64,
