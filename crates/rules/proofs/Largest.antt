@@ -40,6 +40,8 @@ unfolding pension_from
 pension_mono [] [] w no_years g = g
 pension_mono (y ∷ ys) (q ∷ qs) w (year r rs) g =
     pension_mono ys qs w.1 rs (after_year_mono g (le_refl y.year.revaluation) (optimal y.posts q w.0 r))
+pension_mono {a = a} {b = b} [] (q ∷ qs) w x6 g = elim x6 [ ]
+pension_mono {a = a} {b = b} (y ∷ ys) [] w x5 g = elim x5 [ ]
 
 reduced_if_mono : (months factor : ℕ) {a b : ℕ} → a ≤ b → reduced_if months factor a ≤ reduced_if months factor b
 unfolding reduced_if
