@@ -6,8 +6,7 @@ use native.Mathlib.Omega.{arith}
 use borrow.Author.Rules.{rules}
 use borrow.Author.Tests.{ne_eqb, le-leb, lt-leb}
 use Rattle.calendar.specs.Dates.{month_length}
-use Rattle.calendar.proofs.month_length.Statement.{statement}
-use Rattle.calendar.proofs.month_length.Tie as tie
+use Rattle.calendar.proofs.month_length.Goals as goal
 
 -- the months with 30 days
 abbrev Short : ℕ → Type 0
@@ -67,33 +66,21 @@ above year month low s l =
       lt-leb month 12 past,
     )
 
-february_requires : tie.Need-february-requires
-february_requires c κs = search rules
+pub returns-in-4 : goal.returns-in-4
+returns-in-4 c = short _ _ c.in-4.is
 
-returns : tie.Need-returns
-returns c = short _ _ c.match.keys1
+pub returns-in-2 : goal.returns-in-2
+returns-in-2 c = rw c.in-2.is c.february.ensures
 
-returns_2 : tie.Need-returns-2
-returns_2 c = rw c.before.match.keys2 c.february.ensures
-
-returns_3 : tie.Need-returns-3
+pub returns-in_default : goal.returns-in_default
 unfolding month_length
-returns_3 c = let e : c.before.before.args.month ≡ 0 = omega arith in rw e
+returns-in_default c = let e : c.args.month ≡ 0 = omega arith in rw e
 
-returns_4 : tie.Need-returns-4
-returns_4 c =
-    let r = c.before.before.match.rest in
-    above _ _ c.if2.false r.0.0.1 r.1
+pub returns-in_default-2 : goal.returns-in_default-2
+returns-in_default-2 c = above _ _ (omega arith) (search rules) (search rules)
 
-returns_5 : tie.Need-returns-5
-returns_5 c = long _ _ c.match.keys3
+pub returns-in-1-to-12 : goal.returns-in-1-to-12
+returns-in-1-to-12 c = long _ _ (search rules)
 
-returns_6 : tie.Need-returns-6
-returns_6 c =
-    let r = c.before.before.match.rest in
-    summer _ _ c.before.if1.false c.if2.true r.0.0.1 r.0.1
-
-pub month_length_spec : {M : Type 1} → statement M
-month_length_spec =
-    tie.close
-    (tie.spec february_requires returns returns_2 returns_3 returns_4 returns_5 returns_6)
+pub returns-in-1-to-12-2 : goal.returns-in-1-to-12-2
+returns-in-1-to-12-2 c = summer _ _ (omega arith) (omega arith) (search rules) (search rules)
