@@ -36,9 +36,9 @@ pub record Fit (gross debits : SchemeAmounts) : Type 0 where
   pub lump_sum : debits.lump_sum.0 ≤ gross.lump_sum.0
 
 -- the test that the code reads
-pub debits_fit_lem : (gross debits : SchemeAmounts) (t : Bool) → t ≡ covered gross debits → not t ≡ false → Fit gross debits
+pub debits_fit_lem : (gross debits : SchemeAmounts) (t : Bool) → t ≡ covered gross debits → t ≡ true → Fit gross debits
 debits_fit_lem gross debits t e n =
-    let h : covered gross debits ≡ true = sym e ∙ not-false t n in
+    let h : covered gross debits ≡ true = sym e ∙ n in
     record { pension2015 = search parts; pension1995 = search parts; lump_sum = search parts }
 
 -- no more than it is
