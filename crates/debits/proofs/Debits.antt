@@ -1,14 +1,14 @@
 -- Debits: the laws of the code, and what is held of the 06s kept.
 use Prim.Native.Nat.{ℕ, ◌+◌, ◌≤◌}
 use mathlib.Core.Path.{◌≡◌, refl, sym, ◌∙◌, ap}
-use mathlib.Core.Bool.{Bool, true, false, not, cond}
+use mathlib.Core.Bool.{Bool, true, false, cond}
 use mathlib.Core.List.{List, [], ◌∷◌, ◌++◌}
 use mathlib.Core.Option.{Option, none, some}
 use native.Mathlib.Nat.{le_trans, le_of_eq}
 use native.Mathlib.Numerals.{add-one}
 use native.Mathlib.Omega.{arith}
 use lib.Dec.{leb, ltb, eqb}
-use borrow.Author.Tests.{not-false, le-leb}
+use borrow.Author.Tests.{le-leb}
 use Rattle.measures.specs.Lists.{All}
 use Rattle.measures.specs.Refusals.{unless, first_refusal}
 use Rattle.measures.specs.Rounding.{upward}

@@ -1,6 +1,5 @@
 -- `debits::DebitsState::outcome` meets its contract: the nets of the amounts and the debits.
 use Rattle.debits.proofs.Debits.{debits_ups}
-use borrow.Author.Rules.{rules}
 use Rattle.debits.proofs.DebitsState.outcome.Goals as goal
 
 pub net-requires : goal.net-requires
