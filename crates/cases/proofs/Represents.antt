@@ -163,8 +163,8 @@ module _ (c : Case) (k : Frames) (h : Holds c k) (g : Good k) where
   )
 
 -- a frame without refusal stands in its order, and its fields stand
-in_order : (k : Frames) (f : Frame) → first_refusal (unless (in_order k f) 4) (fields_refusal k f) ≡ 0 → (in_order k f ≡ true) × (fields_refusal k f ≡ 0)
-in_order k f r = let n = neither (unless (in_order k f) 4) (fields_refusal k f) r in (passed (in_order k f) 4 (omega arith) n.0, n.1)
+order_stands : (k : Frames) (f : Frame) → first_refusal (unless (in_order k f) 4) (fields_refusal k f) ≡ 0 → (in_order k f ≡ true) × (fields_refusal k f ≡ 0)
+order_stands k f r = let n = neither (unless (in_order k f) 4) (fields_refusal k f) r in (passed (in_order k f) 4 (omega arith) n.0, n.1)
 
 frame_keeps_begun : (c : Case) (k : Frames) (f : Frame) → Holds c k → Good k → in_order k f ≡ true → fields_refusal k f ≡ 0 → Represents (case_next c f) (keep (begun k) f)
 unfolding in_order fields_refusal
@@ -185,7 +185,7 @@ frame_keeps c nothing (Frame.FinalPay f) h r = clash (omega arith)
 frame_keeps c nothing (Frame.Factor f) h r = clash (omega arith)
 frame_keeps c nothing (Frame.Debit d) h r = clash (omega arith)
 frame_keeps c nothing (Frame.TenPays t) h r = clash (omega arith)
-frame_keeps c (begun k) f h r = let o = in_order k f r in frame_keeps_begun c k f h.0 h.1 o.0 o.1
+frame_keeps c (begun k) f h r = let o = order_stands k f r in frame_keeps_begun c k f h.0 h.1 o.0 o.1
 
 -- ---- how large the numbers of a case are
 
