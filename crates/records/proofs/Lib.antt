@@ -1,3 +1,2 @@
 pub mod Calling
 pub mod Bytes
-pub mod PlainCall

@@ -1,4 +1,6 @@
 // The posts of a year lent as a list of records, with places lent for their parts.
+#![tactic(auto)]
+
 ghost use Rattle.std.specs.Prelude.{◌≤◌, min, take};
 ghost use Rattle.posts.specs.Limits.{too_many_posts};
 ghost use Rattle.records.specs.Records.{RecordsGiven};

@@ -1,4 +1,6 @@
 // What the benchmark times: the posts of a year worked afresh, and a year after each of many changes. Posts and changes are lent in bytes.
+#![tactic(auto)]
+
 ghost use Rattle.std.specs.Prelude.{◌≡◌, ◌+◌, ◌*◌, ◌%◌, ◌^◌, ◌≤◌, length};
 ghost use Rattle.posts.specs.Limits.{bytes_of_post};
 ghost use Rattle.posts.specs.Posts.{aggregate_pay};
