@@ -23,6 +23,7 @@ unfolding character_then
 in_front true x ls u = there u
 in_front false x (ended cs ∷ ls) (there u) = there u
 in_front false x (unended cs ∷ ls) u = here
+in_front false x [] u = elim u [ ]
 
 last_unended : (text : List ℕ) (x : ℕ) → (x ≡ 10 → ⊥) → Unended (lines_of (text ++ x ∷ []))
 unfolding lines_of character_then
@@ -38,6 +39,7 @@ line_refused : (k : Kept) (ls : List Line) → Unended ls → Unrefused refusal_
 unfolding refusal_of_decoded line_bytes decoded_line
 line_refused k (unended cs ∷ ls) here (more e rest) = omega (arith, e)
 line_refused k (l ∷ ls) (there u) (more e rest) = line_refused _ ls u rest
+line_refused k [] x'' _ = elim x'' [ ]
 
 pub cut_short : (text : List ℕ) (x : ℕ) → (x ≡ 10 → ⊥) → (a : Amounts) → work_text (text ++ x ∷ []) ≡ Outcome.Worked a → ⊥
 unfolding frames_of

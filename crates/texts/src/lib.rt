@@ -1,4 +1,6 @@
 // The reading of a text, and the printed line.
+#![tactic(auto)]
+
 mod printing;
 mod reading;
 
