@@ -20,12 +20,15 @@ BENCH = --release --offline --locked --manifest-path bench/Cargo.toml
 
 all: library program
 
-# rt proves what changed and nothing else, so it decides what there is to do.
+# rt proves what changed and nothing else, so it decides what there is to do. It leaves what it built in the folder out of
+# a crate; a program it also runs, here on its own standard input.
 library:
-	rt staticlib canyonsieve
+	cd crates/canyonsieve && rt lib
+	install -D -m 644 crates/canyonsieve/out/libcanyonsieve.a $(LIBRARY)
 
 program:
-	rt check case_program
+	cd crates/case_program && rt run < stdin > /dev/null
+	install -D -m 755 crates/case_program/out/case_program $(PROGRAM)
 
 # The header by itself and the payroll programs, read by C and C++ compilers.
 PAYROLL = payroll year
@@ -134,7 +137,8 @@ fuzz: library
 # The time of a case over different texts, beside the twin's; then of a change of a year beside working its posts afresh,
 # by a library of its own. Not part of the gate.
 bench: library
-	rt staticlib timing
+	cd crates/timing && rt lib
+	install -D -m 644 crates/timing/out/libtiming.a target/staticlib/libtiming.a
 	$(CARGO) run $(BENCH)
 	$(CARGO) run $(BENCH) --bin changes
 

@@ -1,4 +1,6 @@
 // The functions that payroll code in C calls. include/canyonsieve.h declares them.
+#![tactic(auto)]
+
 mod employers;
 
 ghost use Rattle.std.specs.Prelude.{◌≡◌, length};

@@ -1,11 +1,46 @@
 // The case program: a text from standard input, one line to standard output.
+#![tactic(auto)]
+
 ghost use Rattle.input.specs.Reading.{ReadInto};
 ghost use Rattle.case_program.specs.Answered.{Answered};
 
 use input::{Reading, read_input};
-use libc::{STDERR_FILENO, STDOUT_FILENO};
 use rules::Outcome;
+use std::env::{Env, FillError};
+use std::fmt::{self, Write};
+use std::io::{Error, Input};
 use texts::{LONGEST_TEXT, printed, work_text};
+
+// An error's words on standard error, without the number that std puts after the system's words.
+#[derive(Drop)]
+struct Words<'a, E> {
+    to: &'a E,
+    is_over: bool,
+}
+
+impl<E: Eprint> fmt::Write for Words<'_, E> {
+    fn write_str(&mut self, text: &str) -> fmt::Result {
+        if text == " (os error " {
+            self.is_over = true;
+        }
+        if !self.is_over {
+            let _ = self.to.eprint(text);
+        }
+        Ok(())
+    }
+}
+
+// Tells on standard error what failed, with the system's words.
+fn fail(rt: &impl Eprint, what: &str, error: Error) {
+    let _ = rt.eprint(what);
+    let _ = rt.eprint(": ");
+    let mut words = Words {
+        to: rt,
+        is_over: false,
+    };
+    let _ = write!(words, "{error}");
+    let _ = rt.eprint("\n");
+}
 
 // Works what was read.
 fn answer(buffer: &[u8], given: Reading) -> Outcome
@@ -17,28 +52,37 @@ fn answer(buffer: &[u8], given: Reading) -> Outcome
 }
 
 // Reads the text, works it and writes its line. A read or a write that failed is told on standard error too, with the system's words.
-fn work() {
+fn work(rt: &(impl Input + Print + Eprint)) {
     // One byte more than the longest text.
     let mut buffer = [0u8; LONGEST_TEXT + 1];
-    let given = read_input(&mut buffer);
-    if given.failed {
-        os::fail(b"canyonsieve-case: standard input");
+    let mut reader = rt.reader();
+    let given = read_input(&mut reader, &mut buffer);
+    if let Some(error) = given.error {
+        fail(rt, "canyonsieve-case: standard input", error);
     }
     let line = printed(answer(&buffer, given));
     let bytes = line.bytes;
     let count = line.count;
-    if !io::write_all(STDOUT_FILENO, &bytes[..count]) {
-        os::fail(b"canyonsieve-case: standard output");
+    if let Err(error) = rt.write_all(&bytes[..count]) {
+        fail(rt, "canyonsieve-case: standard output", error);
     }
 }
 
-fn main() {
-    if 1 < os::arg_count() {
-        io::write_all(
-            STDERR_FILENO,
-            b"usage: canyonsieve-case < TEXT    (no arguments; man canyonsieve-case)\n",
+// Whether the program was started with an argument.
+fn has_arguments(rt: &impl Env) -> bool {
+    let mut room = [0u8; 1];
+    match rt.arg(1, &mut room) {
+        Err(FillError::NotPresent) => false,
+        Ok(_) | Err(FillError::TooLong) => true,
+    }
+}
+
+fn main(rt: HostRuntime) {
+    if has_arguments(&rt) {
+        let _ = rt.eprint(
+            "usage: canyonsieve-case < TEXT    (no arguments; man canyonsieve-case)\n",
         );
         return;
     }
-    work();
+    work(&rt);
 }

@@ -22,9 +22,9 @@ fn date(n: &[u64; 15], at: usize) -> Date
 }
 
 // The dates call.
-pub fn dates(label: &[u8], n: &[u64; 15]) {
+pub fn dates(rt: &impl Print, label: &[u8], n: &[u64; 15]) {
     let answer = dates_call(date(n, 0), date(n, 3), n[6]);
-    lines::months(label, refusal_number(answer), signed(answer));
+    lines::months(rt, label, refusal_number(answer), signed(answer));
 }
 
 // The amount of the number at a place.
@@ -80,17 +80,17 @@ fn change(n: &[u64; 15]) -> Change
 }
 
 // The charge call.
-pub fn charge(label: &[u8], n: &[u64; 15]) {
-    lines::answer(label, charge_call(final_pay(n)));
+pub fn charge(rt: &impl Print, label: &[u8], n: &[u64; 15]) {
+    lines::answer(rt, label, charge_call(final_pay(n)));
 }
 
 // The call on a change of employer.
-pub fn employers(label: &[u8], n: &[u64; 15]) {
-    lines::answer_of_two(label, change_call(final_pay(n), change(n)));
+pub fn employers(rt: &impl Print, label: &[u8], n: &[u64; 15]) {
+    lines::answer_of_two(rt, label, change_call(final_pay(n), change(n)));
 }
 
 // The abatement call.
-pub fn abatement(label: &[u8], n: &[u64; 15]) {
+pub fn abatement(rt: &impl Print, label: &[u8], n: &[u64; 15]) {
     let answer = abatement_call(pence(n, 0), pence(n, 1), pence(n, 2), pence(n, 3));
-    lines::answer(label, answer);
+    lines::answer(rt, label, answer);
 }

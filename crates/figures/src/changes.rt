@@ -9,24 +9,24 @@ use super::years::post;
 use posts::{Changed, MOST_POSTS, YearPosts};
 
 // Writes the parts of the first n posts.
-fn parts_of(parts: &[u64; MOST_POSTS], n: usize)
+fn parts_of(rt: &impl Print, parts: &[u64; MOST_POSTS], n: usize)
     requires { n ≤ most_posts }
 {
-    lines::list(b"; parts", parts, n);
+    lines::list(rt, b"; parts", parts, n);
 }
 
 // Writes a label, the refusal of a change and the year after it: its pay, which way that was rounded, and the parts of each post. Gives
 // the year.
-fn shown(label: &[u8], change: Changed) -> YearPosts
+fn shown(rt: &impl Print, label: &[u8], change: Changed) -> YearPosts
     requires { Held change.year }
     ensures { result ≡ change.year }
 {
     let year = change.year;
     let allocation = year.allocate();
     let way = allocation.way;
-    lines::rounded_pence(label, change.refusal, allocation.aggregate, way);
+    lines::rounded_pence(rt, label, change.refusal, allocation.aggregate, way);
     let parts = allocation.parts;
-    parts_of(&parts, year.count());
+    parts_of(rt, &parts, year.count());
     year
 }
 
@@ -39,14 +39,20 @@ fn begun() -> Changed
 }
 
 // The year after a command on numbers: one that begins or changes it writes it too.
-pub fn changed(year: YearPosts, command: u8, label: &[u8], n: &[u64; 15]) -> YearPosts
+pub fn changed(
+    rt: &impl Print,
+    year: YearPosts,
+    command: u8,
+    label: &[u8],
+    n: &[u64; 15],
+) -> YearPosts
     requires { Held year }
     ensures { HandedOn year (after_command command n.now) result }
 {
     match command {
-        b'Y' => shown(label, begun()),
-        b'J' => shown(label, year.join(post(n, 0))),
-        b'L' => shown(label, year.leave(n[0])),
+        b'Y' => shown(rt, label, begun()),
+        b'J' => shown(rt, label, year.join(post(n, 0))),
+        b'L' => shown(rt, label, year.leave(n[0])),
         _ => year,
     }
 }

@@ -13,6 +13,8 @@
 //                                 year 2, the new employer's, and the price increase;
 //   A LABEL|AMOUNTS               the abatement call on the pension, the earned pension, previous pay and new pay.
 // The file stdout has what the papers say of them.
+#![tactic(auto)]
+
 mod calls;
 mod changes;
 mod lines;
@@ -27,35 +29,36 @@ use calls::{abatement, charge, dates, employers};
 use changes::changed;
 use input::{end_at, numbers_in, read_input};
 use posts::YearPosts;
+use std::io::Input;
 use years::{on_hexadecimal, on_posts, on_records};
 
 // Makes the call of a command on words, of which these are the numbers.
-fn call(command: u8, label: &[u8], words: &[u8], n: &[u64; 15]) {
+fn call(rt: &impl Print, command: u8, label: &[u8], words: &[u8], n: &[u64; 15]) {
     match command {
-        b'P' => on_posts(label, words),
-        b'R' => on_records(label, words),
-        b'B' => on_hexadecimal(label, words, n[0]),
-        b'D' => dates(label, n),
-        b'C' => charge(label, n),
-        b'E' => employers(label, n),
-        b'A' => abatement(label, n),
+        b'P' => on_posts(rt, label, words),
+        b'R' => on_records(rt, label, words),
+        b'B' => on_hexadecimal(rt, label, words, n[0]),
+        b'D' => dates(rt, label, n),
+        b'C' => charge(rt, label, n),
+        b'E' => employers(rt, label, n),
+        b'A' => abatement(rt, label, n),
         _ => {}
     }
 }
 
 // Does a command on words, each after one byte that parts it from what stands before, and gives the year after it.
-fn done(year: YearPosts, command: u8, label: &[u8], words: &[u8]) -> YearPosts
+fn done(rt: &impl Print, year: YearPosts, command: u8, label: &[u8], words: &[u8]) -> YearPosts
     requires { Held year }
     ensures { HandedOn year (after_command command (numbers_of words.now)) result }
 {
     let mut n = [0u64; 15];
     numbers_in(words, &mut n);
-    call(command, label, words, &n);
-    changed(year, command, label, &n)
+    call(rt, command, label, words, &n);
+    changed(rt, year, command, label, &n)
 }
 
 // Does a line, and gives the year after it.
-fn line(year: YearPosts, text: &[u8]) -> YearPosts
+fn line(rt: &impl Print, year: YearPosts, text: &[u8]) -> YearPosts
     requires { Held year }
     ensures { HandedOn year (after_line text.now) result }
 {
@@ -63,26 +66,26 @@ fn line(year: YearPosts, text: &[u8]) -> YearPosts
         return year;
     }
     let bar = end_at(text, 2, b'|');
-    done(year, text[0], &text[2..bar], &text[bar..])
+    done(rt, year, text[0], &text[2..bar], &text[bar..])
 }
 
 // Does the lines of a script in turn.
-fn run(script: &[u8])
+fn run(rt: &impl Print, script: &[u8])
     requires { length script.now ≤ 131072 }
 {
     let mut year = YearPosts::none();
     let mut at: usize = 0;
     while at < script.len() {
         let end = end_at(script, at, b'\n');
-        year = line(year, &script[at..end]);
-        io::write_all(1, b"\n");
+        year = line(rt, year, &script[at..end]);
+        let _ = rt.write_all(b"\n");
         at = end + 1;
     }
 }
 
-fn main() {
+fn main(rt: HostRuntime) {
     let mut buffer = [0u8; 131072];
-    let given = read_input(&mut buffer);
+    let given = read_input(&mut rt.reader(), &mut buffer);
     let n = given.count;
-    run(&buffer[..n]);
+    run(&rt, &buffer[..n]);
 }

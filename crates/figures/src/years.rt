@@ -43,52 +43,53 @@ fn lent_places(n: u64) -> usize
 }
 
 // Writes the numbers in the lent places, the first of a list.
-fn places(list: &[u64; 18], lent: usize)
+fn places(rt: &impl Print, list: &[u64; 18], lent: usize)
     requires { lent ≤ 18 }
 {
-    lines::list(b"; places", list, lent);
+    lines::list(rt, b"; places", list, lent);
 }
 
 // The posts call on bytes with n places lent.
-fn on_bytes(label: &[u8], bytes: &[u8], n: u64) {
+fn on_bytes(rt: &impl Print, label: &[u8], bytes: &[u8], n: u64) {
     let mut list = [9u64; 18];
     let lent = lent_places(n);
-    lines::answer(label, posts_call(bytes, &mut list[..lent]));
-    places(&list, lent);
+    lines::answer(rt, label, posts_call(bytes, &mut list[..lent]));
+    places(rt, &list, lent);
 }
 
 // The posts call on posts of four numbers each, after the number of places lent.
-pub fn on_posts(label: &[u8], words: &[u8]) {
+pub fn on_posts(rt: &impl Print, label: &[u8], words: &[u8]) {
     let mut numbers = [0u64; 69];
     let count = numbers_in(words, &mut numbers);
     let bytes = spelled(posts_in(numbers));
     let n = BYTES_OF_POST * (count / 4);
-    on_bytes(label, &bytes[..n], numbers[0]);
+    on_bytes(rt, label, &bytes[..n], numbers[0]);
 }
 
 // The call on such posts as records, with every place, those that are not lent too; then on a line of its own the posts call on them.
-pub fn on_records(label: &[u8], words: &[u8]) {
+pub fn on_records(rt: &impl Print, label: &[u8], words: &[u8]) {
     let mut numbers = [0u64; 69];
     let count = numbers_in(words, &mut numbers);
     let mut list = [9u64; 18];
     let lent = lent_places(numbers[0]);
     lines::answer(
+        rt,
         label,
         records_front_call(posts_in(numbers), count / 4, &mut list[..lent]),
     );
-    places(&list, 18);
-    io::write_all(1, b"\n");
-    on_posts(label, words);
+    places(rt, &list, 18);
+    let _ = rt.write_all(b"\n");
+    on_posts(rt, label, words);
 }
 
 // The posts call on the bytes that the second word spells.
-pub fn on_hexadecimal(label: &[u8], words: &[u8], lent: u64) {
+pub fn on_hexadecimal(rt: &impl Print, label: &[u8], words: &[u8], lent: u64) {
     let space = end_at(words, 0, b' ');
     if space == words.len() {
         return;
     }
     let start = space + 1;
-    let mut bytes = io::buffer();
+    let mut bytes = [0u8; 4096];
     let n = bytes_in(&words[start..], &mut bytes);
-    on_bytes(label, &bytes[..n], lent);
+    on_bytes(rt, label, &bytes[..n], lent);
 }

@@ -4,4 +4,3 @@ pub mod Posts
 pub mod Putting
 pub mod Rest
 pub mod Words
-pub mod Endings

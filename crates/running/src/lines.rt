@@ -8,69 +8,69 @@ use measures::Pence;
 use rules::{Amounts, Outcome};
 
 // Offers a frame in hexadecimal to a case and adds its refusal to the line.
-fn list(case: Case, digits: &[u8]) -> Case
+fn list(rt: &impl Print, case: Case, digits: &[u8]) -> Case
     requires { IsCase case }
     ensures { HandedOn case (with_word digits.now) result }
 {
-    let mut bytes = io::buffer();
+    let mut bytes = [0u8; 4096];
     let n = bytes_in(digits, &mut bytes);
     let taken = case.take(&bytes[..n]);
-    io::write_all(1, b" ");
-    io::print_decimal(1, taken.refusal);
+    let _ = rt.write_all(b" ");
+    let _ = rt.print(taken.refusal);
     taken.case
 }
 
 // A line of a label and the refusals of frames, each after one byte that parts it from what stands before.
-pub fn offer(case: Case, label: &[u8], frames: &[u8]) -> Case
+pub fn offer(rt: &impl Print, case: Case, label: &[u8], frames: &[u8]) -> Case
     requires { IsCase case }
     ensures { HandedOn case (with_words frames.now) result }
 {
-    io::write_all(1, label);
+    let _ = rt.write_all(label);
     let mut c = case;
     let mut at: usize = 0;
     while at < frames.len() {
         let start = at + 1;
         let end = end_at(frames, start, b' ');
-        c = list(c, &frames[start..end]);
+        c = list(rt, c, &frames[start..end]);
         at = end;
     }
-    io::write_all(1, b"\n");
+    let _ = rt.write_all(b"\n");
     c
 }
 
 // Writes a name and an amount.
-fn amount(name: &[u8], pence: Pence) {
-    io::write_all(1, name);
-    io::print_decimal(1, pence.0);
+fn amount(rt: &impl Print, name: &[u8], pence: Pence) {
+    let _ = rt.write_all(name);
+    let _ = rt.print(pence.0);
 }
 
 // Writes the four amounts, and how many of the roundings on the way to them went up.
-fn amounts(a: Amounts) {
-    amount(b": net 2015 ", a.net_2015);
-    amount(b", net 1995 ", a.net_1995);
-    amount(b", lump sum ", a.net_lump_sum);
-    amount(b", charge ", a.charge);
-    io::write_all(1, b" pence, ");
-    io::print_decimal(1, a.ups);
-    io::write_all(1, b" rounded up\n");
+fn amounts(rt: &impl Print, a: Amounts) {
+    amount(rt, b": net 2015 ", a.net_2015);
+    amount(rt, b", net 1995 ", a.net_1995);
+    amount(rt, b", lump sum ", a.net_lump_sum);
+    amount(rt, b", charge ", a.charge);
+    let _ = rt.write_all(b" pence, ");
+    let _ = rt.print(a.ups);
+    let _ = rt.write_all(b" rounded up\n");
 }
 
 // Closes a case: a line of a label and the four amounts with their count, or the refusal and its line.
-pub fn close(case: Case, label: &[u8])
+pub fn close(rt: &impl Print, case: Case, label: &[u8])
     requires { IsCase case }
 {
     let outcome = case.close();
-    io::write_all(1, label);
+    let _ = rt.write_all(label);
     match outcome {
         Outcome::Worked(a) => {
-            amounts(a);
+            amounts(rt, a);
         }
         Outcome::Refused(refusal) => {
-            io::write_all(1, b": refusal ");
-            io::print_decimal(1, refusal.number);
-            io::write_all(1, b", line ");
-            io::print_decimal(1, refusal.line);
-            io::write_all(1, b"\n");
+            let _ = rt.write_all(b": refusal ");
+            let _ = rt.print(refusal.number);
+            let _ = rt.write_all(b", line ");
+            let _ = rt.print(refusal.line);
+            let _ = rt.write_all(b"\n");
         }
     }
 }

@@ -5,6 +5,8 @@
 //   C LABEL                closes the case, and writes the label and the four amounts with the count of upward
 //                          roundings, or the refusal and its line.
 // The file stdout has what the papers say of them.
+#![tactic(auto)]
+
 mod lines;
 
 ghost use Rattle.std.specs.Prelude.{◌≤◌, length};
@@ -14,9 +16,10 @@ ghost use Rattle.running.specs.Offered.{after_line, HandedOn};
 use cases::Case;
 use input::{end_at, read_input};
 use lines::{close, offer};
+use std::io::Input;
 
 // Does a line, and gives the case after it.
-fn line(case: Case, text: &[u8]) -> Case
+fn line(rt: &impl Print, case: Case, text: &[u8]) -> Case
     requires { IsCase case }
     ensures { HandedOn case (after_line text.now) result }
 {
@@ -25,9 +28,9 @@ fn line(case: Case, text: &[u8]) -> Case
     }
     let bar = end_at(text, 2, b'|');
     match text[0] {
-        b'F' => offer(case, &text[2..bar], &text[bar..]),
+        b'F' => offer(rt, case, &text[2..bar], &text[bar..]),
         b'C' => {
-            close(case, &text[2..bar]);
+            close(rt, case, &text[2..bar]);
             case
         }
         _ => case,
@@ -35,21 +38,21 @@ fn line(case: Case, text: &[u8]) -> Case
 }
 
 // Does the lines of a script in turn.
-fn run(script: &[u8])
+fn run(rt: &impl Print, script: &[u8])
     requires { length script.now ≤ 131072 }
 {
     let mut case = Case::start();
     let mut at: usize = 0;
     while at < script.len() {
         let end = end_at(script, at, b'\n');
-        case = line(case, &script[at..end]);
+        case = line(rt, case, &script[at..end]);
         at = end + 1;
     }
 }
 
-fn main() {
+fn main(rt: HostRuntime) {
     let mut buffer = [0u8; 131072];
-    let given = read_input(&mut buffer);
+    let given = read_input(&mut rt.reader(), &mut buffer);
     let n = given.count;
-    run(&buffer[..n]);
+    run(&rt, &buffer[..n]);
 }

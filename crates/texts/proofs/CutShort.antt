@@ -6,7 +6,7 @@ use mathlib.Core.Bool.{Bool, true, false}
 use lib.Dec.{eqb}
 use borrow.Author.Tests.{eqb-true}
 use native.Mathlib.Omega.{arith}
-use Rattle.measures.specs.Tries.{Unrefused, done, more}
+use Rattle.measures.specs.Tries.{Unrefused, more}
 use Rattle.rules.specs.declared.Amounts.{Amounts}
 use Rattle.rules.specs.declared.Outcome.{Outcome}
 use Rattle.rules.specs.Rules.{Kept, nothing, refusal_of_decoded, keep_decoded}
@@ -38,7 +38,7 @@ last_unended (y ∷ rest) x other = in_front (eqb y 10) y (lines_of (rest ++ x �
 line_refused : (k : Kept) (ls : List Line) → Unended ls → Unrefused refusal_of_decoded keep_decoded k (frames_of_lines ls) → ⊥
 unfolding refusal_of_decoded line_bytes decoded_line
 line_refused k (unended cs ∷ ls) here (more e rest) = omega (arith, e)
-line_refused k (l ∷ ls) (there u) (more e rest) = line_refused _ ls u rest
+line_refused k (l ∷ ls) (there u) (more e rest) = line_refused (keep_decoded k (decoded_line (line_bytes l))) ls u rest
 line_refused k [] x'' _ = elim x'' [ ]
 
 pub cut_short : (text : List ℕ) (x : ℕ) → (x ≡ 10 → ⊥) → (a : Amounts) → work_text (text ++ x ∷ []) ≡ Outcome.Worked a → ⊥

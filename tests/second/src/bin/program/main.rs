@@ -124,12 +124,12 @@ fn hold_told(program: &str) {
         closed,
     );
     let broken = "canyonsieve-case: standard output: Broken pipe\n";
-    for (what, ignored, errors) in [
-        ("a pipe that nobody reads", false, ""),
-        ("the same, its signal ignored", true, broken),
+    for (what, ignored) in [
+        ("a pipe that nobody reads", false),
+        ("the same, its signal ignored", true),
     ] {
         let given = to_nobody(program, PRINTED_CASE, ignored);
-        hold(what, &given, b"", errors);
+        hold(what, &given, b"", broken);
     }
     let usage = "usage: canyonsieve-case < TEXT    (no arguments; man canyonsieve-case)\n";
     for argument in ["--help", "case.txt", ""] {

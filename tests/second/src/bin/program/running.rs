@@ -4,7 +4,6 @@ use std::fs::{self, File};
 use std::io::{self, ErrorKind, Read, Write};
 use std::os::fd::OwnedFd;
 use std::os::unix::net::UnixStream;
-use std::os::unix::process::ExitStatusExt;
 use std::process::{Child, Command, Stdio};
 use std::thread::sleep;
 use std::time::{Duration, Instant};
@@ -20,7 +19,6 @@ extern "C" {
     fn kill(process: i32, signal: i32) -> i32;
 }
 
-const SIGPIPE: i32 = 13;
 const SIGSTOP: i32 = 19;
 const SIGCONT: i32 = 18;
 
@@ -36,17 +34,8 @@ fn started(program: &str, arguments: &[&str], input: Stdio) -> Child {
 
 /// The end of a program, by itself with status 0.
 fn ended(child: Child) -> Ended {
-    ended_by(child, None)
-}
-
-/// The end of a program, by itself with status 0 or by a signal.
-fn ended_by(child: Child, signal: Option<i32>) -> Ended {
     let given = child.wait_with_output().expect("a program that ends");
-    let status = given.status;
-    assert_eq!(
-        (status.success(), status.signal()),
-        (signal.is_none(), signal)
-    );
+    assert!(given.status.success(), "{}", given.status);
     Ended {
         output: String::from_utf8_lossy(&given.stdout).into(),
         errors: String::from_utf8_lossy(&given.stderr).into(),
@@ -164,14 +153,14 @@ pub fn to_closed(program: &str, text: &[u8]) -> Ended {
     ended(fed(child, text))
 }
 
-/// Standard output is a pipe that nobody reads any more, of which the system tells by a signal. The
-/// program ends by it, or where its caller has it ignored goes on.
+/// Standard output is a pipe that nobody reads any more, of which the system tells by a signal, or
+/// where the caller has that ignored by the write alone.
 pub fn to_nobody(program: &str, text: &[u8], ignored: bool) -> Ended {
     let trap = if ignored { "trap '' PIPE;" } else { "" };
     let command = format!("{trap} exec \"$0\"");
     let mut child = started("sh", &["-c", &command, program], Stdio::piped());
     drop(child.stdout.take());
-    ended_by(fed(child, text), (!ignored).then_some(SIGPIPE))
+    ended(fed(child, text))
 }
 
 /// A program that has been given a text, whole, through its pipe.
