@@ -1,4 +1,6 @@
 // The pay of the 2008 Section: the best three consecutive years of ten.
+#![tactic(auto)]
+
 ghost use Rattle.std.specs.Prelude.{◌≡◌, [], ◌∷◌, ◌+◌, ◌≤◌};
 ghost use Rattle.measures.specs.Limits.{highest_pay};
 ghost use Rattle.benefits.specs.Limits.{most_days};

@@ -1,4 +1,6 @@
 // The steps on amounts: the pension of the years, final pay, reduction, debits, the final pay charge and abatement.
+#![tactic(auto)]
+
 ghost use Rattle.std.specs.Prelude.{◌≡◌, ◌+◌, ◌-◌, ◌^◌, ◌≤◌, ◌<◌, min, max};
 ghost use Rattle.measures.specs.Limits.{highest_pay, highest_aggregate};
 ghost use Rattle.measures.specs.Rounding.{upward};

@@ -111,6 +111,8 @@ module _ (H : ℕ) (pH : 0 < H) where
       let turned : rounded (counted H x a) (rate_under x * H) + paid H xs cs ≡ paid H xs cs + rounded (counted H x a) (rate_under x * H) = omega arith in
       rw (sum, order, turned, rest.1, either_exact (way (counted H x a) (rate_under x * H)))
       (rounds_rest (paid H xs cs) (counted H x a) (rate_under x * H) (D xs) _ _ (mul-pos (rate_under_pos x u.0) pH) (D-pos xs u.1) (refl, refl))
+  lone_rounds [] (a ∷ cs) u x4 = elim x4 [ ]
+  lone_rounds (x ∷ xs) [] u x5 = elim x5 [ ]
 
 -- ---- of a year's posts one at most counts no whole number
 
@@ -129,19 +131,19 @@ nought H x a e = by (eqb a (h x * H))
 module _ (H K : ℕ) (c : Claim) where
   -- once K is used up, only whole numbers follow
   filled_wholes : {t : ℕ} (xs : List Post) {cs : List ℕ} → Filled K c t (claims H xs) cs → K ≤ t → Wholes H xs cs
-  filled_wholes [] done g = tt
-  filled_wholes (x ∷ xs) (over k f) g = (full H x _ refl, filled_wholes xs f g)
-  filled_wholes (x ∷ xs) (under k f) g = (nought H x _ refl, filled_wholes xs f g)
-  filled_wholes (x ∷ xs) (level {s = t} k k' f) g = (nought H x (min (h x * H) (K - t)) (omega arith), filled_wholes xs f (omega arith))
+  filled_wholes {t = t} [] done g = tt
+  filled_wholes {t = t} (x ∷ xs) (over k f) g = (full H x _ refl, filled_wholes {t = t} xs f g)
+  filled_wholes {t = t} (x ∷ xs) (under k f) g = (nought H x _ refl, filled_wholes {t = t} xs f g)
+  filled_wholes {t = t} (x ∷ xs) (level k k' f) g = (nought H x (min (h x * H) (K - t)) (omega arith), filled_wholes {t = t + h x * H} xs f (omega arith))
 
   filled_lone : {t : ℕ} (xs : List Post) {cs : List ℕ} → Filled K c t (claims H xs) cs → Lone H xs cs
-  filled_lone [] done = none
-  filled_lone (x ∷ xs) (over k f) = skip (full H x _ refl) (filled_lone xs f)
-  filled_lone (x ∷ xs) (under k f) = skip (nought H x _ refl) (filled_lone xs f)
-  filled_lone (x ∷ xs) (level {s = t} k k' f) =
+  filled_lone {t = t} [] done = none
+  filled_lone {t = t} (x ∷ xs) (over k f) = skip (full H x _ refl) (filled_lone {t = t} xs f)
+  filled_lone {t = t} (x ∷ xs) (under k f) = skip (nought H x _ refl) (filled_lone {t = t} xs f)
+  filled_lone {t = t} (x ∷ xs) (level k k' f) =
       ⊎_elim
       (λ (g : K ≤ t + h x * H). this (filled_wholes xs f g))
-      (λ (g : t + h x * H < K). skip (full H x (min (h x * H) (K - t)) (omega arith)) (filled_lone xs f))
+      (λ (g : t + h x * H < K). skip (full H x (min (h x * H) (K - t)) (omega arith)) (filled_lone {t = t + h x * H} xs f))
       (le_or_lt K (t + h x * H))
 
 whole_lone : (H : ℕ) (xs : List Post) → Lone H xs (whole_time_parts H xs)
@@ -293,6 +295,8 @@ unfolding pay_total counted_together
 together_most H [] [] k nothing = omega arith
 together_most H (x ∷ xs) (q ∷ qs) k (more g r) =
     omega (arith, mul-le-mul_right (denominator (claims H xs)) (counted_most H x q k.0 g), mul-le-mul_right (rate_under x) (together_most H xs qs k.1 r))
+together_most H [] (q ∷ qs) k x4 = elim x4 [ ]
+together_most H (x ∷ xs) [] k x5 = elim x5 [ ]
 
 pub aggregate_bound : (xs : List Post) → All HasMinutes xs → aggregate_pay xs ≤ pay_total xs
 unfolding pay_total rounded aggregate_pay counted_together

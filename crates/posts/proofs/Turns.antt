@@ -147,6 +147,8 @@ within_at : (H : ℕ) (xs : List Post) (qs : List ℕ) (i : ℕ) → Within (cla
 within_at H [] [] i nothing g = absurd (not-suc-le-zero g)
 within_at H (x ∷ xs) (q ∷ qs) zero (more k u) g = k
 within_at H (x ∷ xs) (q ∷ qs) (suc i) (more k u) g = within_at H xs qs i u (le_of_suc-le-suc g)
+within_at H [] (q ∷ qs) i x4 g = elim x4 [ ]
+within_at H (x ∷ xs) [] i x5 g = elim x5 [ ]
 
 -- what the posts from place i on count, and which way that goes
 paid_turn : (H : ℕ) (xs : List Post) (qs : List ℕ) (i : ℕ) → i < length xs → i < length qs

@@ -1,0 +1,13 @@
+-- `benefits::raised` meets its contract: the product fits, and measures rounds it.
+use mathlib.Core.Path.{◌∙◌}
+use native.Mathlib.Omega.{arith}
+use Rattle.benefits.specs.Steps.{raised, raised_way}
+use Rattle.benefits.proofs.Monotone.{rise}
+use Rattle.benefits.proofs.raised.Goals as goal
+
+pub scaled-requires : goal.scaled-requires
+scaled-requires c = omega (arith, rise 1000 c.requires.0 c.requires.1)
+
+pub returns : goal.returns
+unfolding raised raised_way
+returns c = (c.in_pence.ensures.0 ∙ c.scaled.ensures.0, c.in_pence.ensures.1 ∙ c.scaled.ensures.1)

@@ -1,0 +1,11 @@
+-- `posts::rates::is_equal` meets its contract.
+use Rattle.posts.proofs.rates.is_equal.Goals as goal
+
+pub returns-in-Higher : goal.returns-in-Higher
+returns-in-Higher c = rw c.in-Higher.is
+
+pub returns-in-Lower : goal.returns-in-Lower
+returns-in-Lower c = rw c.in-Lower.is
+
+pub returns-in-Equal : goal.returns-in-Equal
+returns-in-Equal c = rw c.in-Equal.is
