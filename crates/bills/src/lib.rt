@@ -1,4 +1,6 @@
 // Bills for employers that no case has: both charges for one change of employer.
+#![tactic(auto)]
+
 use measures::Pence;
 
 mod employers;

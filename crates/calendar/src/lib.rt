@@ -59,6 +59,7 @@ pub fn month_length(year: u64, month: u64) -> u64
 }
 
 // Whether this is a date of the years 1900 to 2100.
+#[tactic(auto, using(measures::proofs::Tests::tests), unfolding(crate::specs::Dates::date_stands))]
 pub fn date_stands(d: Date) -> bool
     ensures { result ≡ date_stands d }
 {
@@ -94,6 +95,7 @@ pub fn is_before(a: Date, b: Date) -> bool
 }
 
 // 5 where a date does not stand, retirement is before birth, or the pension age is outside 55 to 75; else 0.
+#[tactic(auto, using(measures::proofs::Tests::tests), unfolding(crate::specs::Dates::dates_refusal))]
 pub fn dates_refusal(birth: Date, retirement: Date, pension_age: u64) -> u64
     ensures { result ≡ dates_refusal birth retirement pension_age }
 {

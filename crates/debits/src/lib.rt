@@ -1,4 +1,6 @@
 // Scheme Pays debits: refusals 11 and 14, and the net amounts.
+#![tactic(auto)]
+
 ghost use Rattle.std.specs.Prelude.{◌≡◌, ◌≤◌};
 ghost use Rattle.benefits.specs.Limits.{highest_pot, highest_amount};
 ghost use Rattle.rules.specs.Amounts.{ups_reduced};

@@ -1,4 +1,6 @@
 // Months early and the factors for them: refusals 10 and 13, and the reduction. What depends on the date of retirement stands apart, in `Dated`.
+#![tactic(auto)]
+
 ghost use Rattle.std.specs.Prelude.{◌≡◌, ◌^◌, ◌≤◌};
 ghost use Rattle.benefits.specs.Limits.{highest_early_factor};
 ghost use Rattle.calendar.specs.Ranges.{Accepted};

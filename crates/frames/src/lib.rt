@@ -1,4 +1,6 @@
 // The frames of a case: seven kinds, each with its own fields.
+#![tactic(auto)]
+
 use averages::TenPays;
 use benefits::FinalPay;
 use calendar::Date;

@@ -15,9 +15,9 @@ use Rattle.measures.specs.Lists.{All}
 use Rattle.measures.specs.Refusals.{unless, first_refusal}
 use Rattle.measures.proofs.Tests.{clash, both_sides, passed, neither, and_left, and_right}
 use Rattle.measures.proofs.Integers.{less, less_mono, less_both}
-use Rattle.posts.specs.Posts.{HasMinutes}
+use Rattle.posts.specs.Posts.{HasMinutes, aggregate, aggregate_pay}
 use Rattle.posts.proofs.Aggregate.{optimal, parts_allowed}
-use Rattle.benefits.specs.Steps.{final_pay, final_year, reduced}
+use Rattle.benefits.specs.Steps.{after_year, final_pay, final_year, reduced}
 use Rattle.benefits.proofs.Monotone.{after_year_mono, section_pension_mono, lump_sum_mono, reduced_mono}
 use Rattle.benefits.proofs.Highest.{final_highest, final_latest}
 use Rattle.averages.specs.declared.Three.{Three}
@@ -37,9 +37,12 @@ WorkedPosts y = All HasMinutes y.posts
 
 pension_mono : {a b : ℕ} (ys : List WorkedYear) (qs : List (List ℕ)) → All WorkedPosts ys → RivalParts ys qs → a ≤ b → pension_from a ys (rival_aggregates ys qs) ≤ pension_from b ys (own_aggregates ys)
 unfolding pension_from
-pension_mono [] [] w no_years g = g
-pension_mono (y ∷ ys) (q ∷ qs) w (year r rs) g =
-    pension_mono ys qs w.1 rs (after_year_mono g (le_refl y.year.revaluation) (optimal y.posts q w.0 r))
+pension_mono {a = a} {b = b} [] [] w no_years g = g
+pension_mono {a = a} {b = b} (y ∷ ys) (q ∷ qs) w (year r rs) g =
+    pension_mono {a = after_year a y.year.revaluation (aggregate y.posts q)} {b = after_year b y.year.revaluation (aggregate_pay y.posts)} ys qs w.1 rs
+    (after_year_mono g (le_refl y.year.revaluation) (optimal y.posts q w.0 r))
+pension_mono {a = a} {b = b} [] (q ∷ qs) w r g = elim r [ ]
+pension_mono {a = a} {b = b} (y ∷ ys) [] w r g = elim r [ ]
 
 reduced_if_mono : (months factor : ℕ) {a b : ℕ} → a ≤ b → reduced_if months factor a ≤ reduced_if months factor b
 unfolding reduced_if

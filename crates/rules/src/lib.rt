@@ -1,4 +1,6 @@
 // The papers' rules over the frames kept of one member, and what a case comes to.
+#![tactic(auto)]
+
 use measures::Pence;
 
 // The amounts of a worked case, and how many of the roundings on the way to them went up.

@@ -1,4 +1,6 @@
 // The pay of the member's section: refusals 9, 27 and 12, the section's pension and lump sum, and the charge.
+#![tactic(auto)]
+
 ghost use Rattle.std.specs.Prelude.{◌≡◌, ◌≤◌};
 ghost use Rattle.benefits.specs.Bounds.{FinalPayBounds};
 ghost use Rattle.benefits.specs.Limits.{highest_amount};

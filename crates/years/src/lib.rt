@@ -1,4 +1,6 @@
 // Years, and the posts of a year: refusals 6, 7 and 8, and the pension of the years.
+#![tactic(auto)]
+
 ghost use Rattle.std.specs.Prelude.{◌≡◌};
 ghost use Rattle.years.specs.Years.{no_years, year_fields, pension_now, ups_now, year_taken, post_taken, YearsBounds};
 

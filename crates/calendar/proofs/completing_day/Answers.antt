@@ -1,7 +1,6 @@
 -- `calendar::completing_day` meets its contract: by whether the month is too short for the birth day.
 use mathlib.Core.Path.{◌∙◌}
 use native.Mathlib.Omega.{arith}
-use borrow.Author.Rules.{rules}
 use Rattle.calendar.proofs.CompletingDay.{by_birth_day, by_last_day}
 use Rattle.calendar.proofs.completing_day.Goals as goal
 

@@ -1,7 +1,6 @@
 -- `calendar::dates_call` meets its contract: what is not refused meets the requirement of `months_early`.
 use mathlib.Core.Path.{sym, ◌∙◌}
 use native.Mathlib.Omega.{arith}
-use borrow.Author.Rules.{rules}
 use Rattle.calendar.specs.Dates.{refusal_given, months_given}
 use Rattle.calendar.proofs.AcceptedDates.{accepted, accepted_age, accepted_number, refused_number, refused_5}
 use Rattle.calendar.proofs.dates_call.Goals as goal

@@ -1,5 +1,4 @@
 -- `calendar::february` meets its contract: 29 days in a leap year.
-use borrow.Author.Rules.{rules}
 use Rattle.calendar.specs.Dates.{month_length}
 use Rattle.calendar.proofs.february.Goals as goal
 

@@ -67,24 +67,20 @@ above year month low s l =
     )
 
 pub returns-in-4 : goal.returns-in-4
-returns-in-4 c = short _ _ c.in-4.keys1
+returns-in-4 c = short _ _ c.in-4.is
 
 pub returns-in-2 : goal.returns-in-2
-returns-in-2 c = rw c.in-4.keys2 c.february.ensures
+returns-in-2 c = rw c.in-2.is c.february.ensures
 
 pub returns-in_default : goal.returns-in_default
 unfolding month_length
 returns-in_default c = let e : c.args.month ≡ 0 = omega arith in rw e
 
 pub returns-in_default-2 : goal.returns-in_default-2
-returns-in_default-2 c =
-    let r = c.in-4.rest in
-    above _ _ c.if-month-lt9.false r.0.0.1 r.1
+returns-in_default-2 c = above _ _ (omega arith) (search rules) (search rules)
 
 pub returns-in-1-to-12 : goal.returns-in-1-to-12
-returns-in-1-to-12 c = long _ _ c.in-4.keys3
+returns-in-1-to-12 c = long _ _ (search rules)
 
 pub returns-in-1-to-12-2 : goal.returns-in-1-to-12-2
-returns-in-1-to-12-2 c =
-    let r = c.in-4.rest in
-    summer _ _ c.if-month-lt1.false c.if-month-lt9.true r.0.0.1 r.0.1
+returns-in-1-to-12-2 c = summer _ _ (omega arith) (omega arith) (search rules) (search rules)

@@ -1,6 +1,5 @@
 -- `calendar::months_early` meets its contract: the difference of two counts of months, taken the way that is not below nought.
 use native.Mathlib.Omega.{arith}
-use borrow.Author.Rules.{rules}
 use Rattle.calendar.specs.Dates.{months_of}
 use Rattle.calendar.proofs.CountedMonths.{early_months, late_months, completed_bound}
 use Rattle.calendar.proofs.months_early.Goals as goal
