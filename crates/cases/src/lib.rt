@@ -1,4 +1,6 @@
 // The running case: the rules over the frames of one member.
+#![tactic(auto)]
+
 use debits::DebitsState;
 use factors::FactorsState;
 use frames::Member;

@@ -237,7 +237,7 @@ unfolding pension_from
 pension_ceiling before k [] g h = le_trans h (le_of_eq (ap ceiling (let e : k ≡ k + 0 = omega arith in e)))
 pension_ceiling before k (y ∷ ys) g h =
     le_trans
-    (pension_ceiling _ (suc k) ys g.1
+    (pension_ceiling (after_year before y.year.revaluation (aggregate_pay y.posts)) (suc k) ys g.1
     (ceiling_step k before y.year.revaluation (aggregate_pay y.posts) h (year_good y.year g.0.stands).revaluation (aggregate_most y.posts g.0.posts g.0.few)))
     (le_of_eq (ap ceiling (let e : suc k + length ys ≡ k + length (y ∷ ys) = omega arith in e)))
 
