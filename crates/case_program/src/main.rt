@@ -8,7 +8,7 @@ use input::{Reading, read_input};
 use rules::Outcome;
 use std::env::{Env, FillError};
 use std::fmt::{self, Write};
-use std::io::{Error, Input};
+use std::io::{Error, Read};
 use texts::{LONGEST_TEXT, printed, work_text};
 
 // An error's words on standard error, without the number that std puts after the system's words.
@@ -52,11 +52,10 @@ fn answer(buffer: &[u8], given: Reading) -> Outcome
 }
 
 // Reads the text, works it and writes its line. A read or a write that failed is told on standard error too, with the system's words.
-fn work(rt: &(impl Input + Print + Eprint)) {
+fn work<R: Read>(reader: &mut R, rt: &(impl Print + Eprint)) {
     // One byte more than the longest text.
     let mut buffer = [0u8; LONGEST_TEXT + 1];
-    let mut reader = rt.reader();
-    let given = read_input(&mut reader, &mut buffer);
+    let given = read_input(reader, &mut buffer);
     if let Some(error) = given.error {
         fail(rt, "canyonsieve-case: standard input", error);
     }
@@ -69,7 +68,7 @@ fn work(rt: &(impl Input + Print + Eprint)) {
 }
 
 // Whether the program was started with an argument.
-fn has_arguments(rt: &impl Env) -> bool {
+fn has_arguments(rt: &HostRuntime) -> bool {
     let mut room = [0u8; 1];
     match rt.arg(1, &mut room) {
         Err(FillError::NotPresent) => false,
@@ -84,5 +83,5 @@ fn main(rt: HostRuntime) {
         );
         return;
     }
-    work(&rt);
+    work(&mut rt.stdin(), &rt);
 }

@@ -1,14 +1,14 @@
 -- Debits: the laws of the code, and what is held of the 06s kept.
 use Prim.Native.Nat.{ℕ, ◌+◌, ◌≤◌}
 use mathlib.Core.Path.{◌≡◌, refl, sym, ◌∙◌, ap}
-use mathlib.Core.Bool.{Bool, true, false, cond}
+use mathlib.Core.Bool.{Bool, true, false, not, cond}
 use mathlib.Core.List.{List, [], ◌∷◌, ◌++◌}
 use mathlib.Core.Option.{Option, none, some}
 use native.Mathlib.Nat.{le_trans, le_of_eq}
 use native.Mathlib.Numerals.{add-one}
 use native.Mathlib.Omega.{arith}
 use lib.Dec.{leb, ltb, eqb}
-use borrow.Author.Tests.{le-leb}
+use borrow.Author.Tests.{not-false, le-leb}
 use Rattle.measures.specs.Lists.{All}
 use Rattle.measures.specs.Refusals.{unless, first_refusal}
 use Rattle.measures.specs.Rounding.{upward}
@@ -36,9 +36,9 @@ pub record Fit (gross debits : SchemeAmounts) : Type 0 where
   pub lump_sum : debits.lump_sum.0 ≤ gross.lump_sum.0
 
 -- the test that the code reads
-pub debits_fit_lem : (gross debits : SchemeAmounts) (t : Bool) → t ≡ covered gross debits → t ≡ true → Fit gross debits
+pub debits_fit_lem : (gross debits : SchemeAmounts) (t : Bool) → t ≡ covered gross debits → not t ≡ false → Fit gross debits
 debits_fit_lem gross debits t e n =
-    let h : covered gross debits ≡ true = sym e ∙ n in
+    let h : covered gross debits ≡ true = sym e ∙ not-false t n in
     record { pension2015 = search parts; pension1995 = search parts; lump_sum = search parts }
 
 -- no more than it is

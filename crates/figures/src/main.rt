@@ -29,7 +29,6 @@ use calls::{abatement, charge, dates, employers};
 use changes::changed;
 use input::{end_at, numbers_in, read_input};
 use posts::YearPosts;
-use std::io::Input;
 use years::{on_hexadecimal, on_posts, on_records};
 
 // Makes the call of a command on words, of which these are the numbers.
@@ -85,7 +84,7 @@ fn run(rt: &impl Print, script: &[u8])
 
 fn main(rt: HostRuntime) {
     let mut buffer = [0u8; 131072];
-    let given = read_input(&mut rt.reader(), &mut buffer);
+    let given = read_input(&mut rt.stdin(), &mut buffer);
     let n = given.count;
     run(&rt, &buffer[..n]);
 }

@@ -10,13 +10,13 @@ pub starred : Starred
 unfolding rounded counted counted_together aggregate_pay is_leap month_length completing_day completed_months months_early final_pay final_year section_pension pension_debit lump_debit controlled raised allowed_from allowed3 allowed2 allowed1 allowed_in excess excess_pension charge_from charge enhancement abatement
 starred =
     record {
-      no_posts_lem = refl;
+      no_posts = refl;
       two_posts = refl;
       uneven_posts = refl;
       differing_weeks = refl;
       equal_rates = refl;
       second_cut = refl;
-      whole_time_lem = refl;
+      whole_time = refl;
       early_at_60 = refl;
       early_at_67 = refl;
       at_pension_age = refl;

@@ -24,7 +24,7 @@ charged =
 -- the figures together
 pub record Starred : Type 0 where
   -- "No posts: 0."
-  pub no_posts_lem : aggregate_pay [] ≡ 0
+  pub no_posts : aggregate_pay [] ≡ 0
   -- "20 h at £10,000 and 20 h at £12,000 of 37.5 h: £20,750."
   pub two_posts : aggregate_pay (post_of 1200 2250 1000000 0 ∷ post_of 1200 2250 1200000 0 ∷ []) ≡ 2075000
   -- "25 h £26,000, 15 h £12,000 of 37.5: £36,000."
@@ -35,7 +35,7 @@ pub record Starred : Type 0 where
   pub equal_rates : aggregate_pay (post_of 1200 2250 1000000 0 ∷ post_of 1200 2250 1000000 0 ∷ []) ≡ 1875000
   pub second_cut : parts (post_of 1200 2250 1000000 0 ∷ post_of 1200 2250 1000000 0 ∷ []) ≡ 1200 * 2400 ∷ 1050 * 2400 ∷ []
   -- "37.5 h £20,000 and 5 h £9,000, both of 37.5: £20,000."
-  pub whole_time_lem : aggregate_pay (post_of 2250 2250 2000000 0 ∷ post_of 300 2250 900000 0 ∷ []) ≡ 2000000
+  pub whole_time : aggregate_pay (post_of 2250 2250 2000000 0 ∷ post_of 300 2250 900000 0 ∷ []) ≡ 2000000
   -- "Born 1 April 1970, out 1 November 2025, age 60: 53 months."
   pub early_at_60 : months_early (date_of 1970 4 1) (date_of 2025 11 1) 60 ≡ pos 53
   -- "Born 1 November 1967, age 67: out 17 October 2030, 49; 1 November 2034, 0; 1 December 2034, −1."

@@ -16,7 +16,6 @@ ghost use Rattle.running.specs.Offered.{after_line, HandedOn};
 use cases::Case;
 use input::{end_at, read_input};
 use lines::{close, offer};
-use std::io::Input;
 
 // Does a line, and gives the case after it.
 fn line(rt: &impl Print, case: Case, text: &[u8]) -> Case
@@ -52,7 +51,7 @@ fn run(rt: &impl Print, script: &[u8])
 
 fn main(rt: HostRuntime) {
     let mut buffer = [0u8; 131072];
-    let given = read_input(&mut rt.reader(), &mut buffer);
+    let given = read_input(&mut rt.stdin(), &mut buffer);
     let n = given.count;
     run(&rt, &buffer[..n]);
 }

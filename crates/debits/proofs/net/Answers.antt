@@ -1,4 +1,6 @@
 -- `debits::net` meets its contract: a difference for each amount where the debits are covered, with all upward roundings, 14 otherwise.
+use mathlib.Core.Bool.{not}
+use mathlib.Core.Path.{ap}
 use Rattle.rules.specs.Working.{worked_unless}
 use Rattle.debits.specs.Debits.{net_of}
 use Rattle.debits.proofs.Debits.{Fit, debits_fit_lem}
@@ -12,14 +14,14 @@ returns-then-not-is_covered c =
     simp (← t.ensures, c.if-not-is_covered.true)
 
 pub overflow_sub-net_2015 : goal.overflow_sub-net_2015
-overflow_sub-net_2015 c = let f : Fit c.args.gross c.args.debits = (debits_fit_lem c.args.gross c.args.debits _ c.is_covered.ensures c.if-not-is_covered.false) in omega arith
+overflow_sub-net_2015 c = let f : Fit c.args.gross c.args.debits = (debits_fit_lem c.args.gross c.args.debits _ c.is_covered.ensures (ap not c.if-not-is_covered.false)) in omega arith
 
 pub overflow_sub-net_1995 : goal.overflow_sub-net_1995
-overflow_sub-net_1995 c = let f : Fit c.args.gross c.args.debits = (debits_fit_lem c.args.gross c.args.debits _ c.is_covered.ensures c.if-not-is_covered.false) in omega arith
+overflow_sub-net_1995 c = let f : Fit c.args.gross c.args.debits = (debits_fit_lem c.args.gross c.args.debits _ c.is_covered.ensures (ap not c.if-not-is_covered.false)) in omega arith
 
 pub overflow_sub-net_lump_sum : goal.overflow_sub-net_lump_sum
 overflow_sub-net_lump_sum c =
-    let f : Fit c.args.gross c.args.debits = (debits_fit_lem c.args.gross c.args.debits _ c.is_covered.ensures c.if-not-is_covered.false) in
+    let f : Fit c.args.gross c.args.debits = (debits_fit_lem c.args.gross c.args.debits _ c.is_covered.ensures (ap not c.if-not-is_covered.false)) in
     omega arith
 
 -- the facts of the call, past the differences
