@@ -114,11 +114,12 @@ impl Repository {
         })
     }
 
-    /// The crates of crates.txt.
+    /// The crates of crates.txt, each the first word of what stands before a colon.
     pub fn crates(&self) -> Vec<String> {
         let text = self.text("crates.txt");
-        let names = text.lines().filter_map(|line| line.split_once(':'));
-        names.map(|(name, _)| name.to_string()).collect()
+        let heads = text.lines().filter_map(|line| line.split_once(':'));
+        let names = heads.filter_map(|(head, _)| head.split_whitespace().next());
+        names.map(str::to_string).collect()
     }
 }
 
