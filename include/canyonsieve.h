@@ -15,7 +15,7 @@
  *
  * docs/FRAMES.md says how a text is written, byte by byte, and docs/RULES.md by which steps it is worked, with examples
  * and a glossary; both are installed under share/doc/canyonsieve. Link with libcanyonsieve.a, which is for x86-64
- * Linux.
+ * Linux, on a processor of level x86-64-v2.
  */
 #ifndef CANYONSIEVE_H
 #define CANYONSIEVE_H
@@ -284,8 +284,8 @@ CANYONSIEVE_CHECKED struct canyonsieve_charges canyonsieve_change_of_employer(
  * refused ends the reading: 2, 3, 4, then 5 to 11, 27 or 28 by the frame's own fields; at the end, line 0: 4, 12, 13,
  * 14.
  *
- * It needs under 8 kilobytes of stack, canyonsieve_posts under 6, the other calls under 4, the first call of a process
- * included. */
+ * It needs under 6 kilobytes of stack, canyonsieve_posts under 4, the other calls under 1. In a program that binds the
+ * functions of the C library at their first call, the first call of a process needs up to 4 kilobytes more. */
 CANYONSIEVE_CHECKED struct canyonsieve_outcome canyonsieve_case(const uint8_t *text, size_t length);
 
 /* Months early: from the age at retirement, in completed months, to pension age. Below 0 for months late.
