@@ -1,4 +1,4 @@
-// What the programs read from standard input, and posts spelled in bytes.
+// What the programs read, and posts spelled in bytes.
 #![tactic(auto)]
 
 mod script;

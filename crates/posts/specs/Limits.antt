@@ -26,6 +26,6 @@ heaviest_week = longest_week * longest_week
 abbrev pub most_parts : ℕ
 most_parts = longest_week * most_minutes
 
--- the most that stands above the line of a rate; below it heaviestWeek
+-- the most that stands above the line of a rate; below it heaviest_week
 abbrev pub highest_rate_over : ℕ
 highest_rate_over = highest_counted * longest_week
