@@ -24,7 +24,6 @@ overflow_sub-net_lump_sum c =
     let f : Fit c.args.gross c.args.debits = (debits_fit_lem c.args.gross c.args.debits _ c.is_covered.ensures (ap not c.if-not-is_covered.false)) in
     omega arith
 
--- the facts of the call, past the differences
 pub overflow_add-ups : goal.overflow_add-ups
 overflow_add-ups c =
     omega (arith, c.requires.0, c.requires.1)
