@@ -1,8 +1,8 @@
 -- Ten pays that are not refused: how large their numbers, their average and the pension are.
 use Prim.Native.Nat.{ℕ, ◌+◌, ◌≤◌}
-use mathlib.Core.Path.{◌≡◌, refl, sym, ◌∙◌, ap₂}
-use mathlib.Core.Bool.{Bool, true, false, ◌&&◌}
-use mathlib.Core.List.{List, [], ◌∷◌, ◌++◌}
+use mathlib.Core.Path.{◌≡◌}
+use mathlib.Core.Bool.{true, ◌&&◌}
+use mathlib.Core.List.{List, [], ◌∷◌}
 use native.Mathlib.Nat.{mul-le-mul}
 use native.Mathlib.Omega.{arith}
 use lib.Dec.{leb, ltb}
@@ -23,25 +23,6 @@ all_within [] e = tt
 all_within (pay ∷ pays) e =
     let one = leb pay highest_pay in
     (leb-true _ _ (and_left one (pays_within pays) e), all_within pays (and_right one (pays_within pays) e))
-
--- the test of two lists of pays, one after the other
-within_both : (xs ys : List ℕ) → pays_within (xs ++ ys) ≡ (pays_within xs && pays_within ys)
-within_both [] ys = refl
-within_both (x ∷ xs) ys = by (leb x highest_pay) (within_both xs ys)
-  where
-    by : (t : Bool) → pays_within (xs ++ ys) ≡ (pays_within xs && pays_within ys) → (t && pays_within (xs ++ ys)) ≡ ((t && pays_within xs) && pays_within ys)
-    by true e = e
-    by false e = refl
-
--- the earlier five years and the later five
-abbrev earlier_pays : TenPays → List ℕ
-earlier_pays t = t.pay10.0 ∷ t.pay9.0 ∷ t.pay8.0 ∷ t.pay7.0 ∷ t.pay6.0 ∷ []
-
-abbrev later_pays : TenPays → List ℕ
-later_pays t = t.pay5.0 ∷ t.pay4.0 ∷ t.pay3.0 ∷ t.pay2.0 ∷ t.pay1.0 ∷ []
-
-pub ten_within : (t : TenPays) {earlier later : Bool} → earlier ≡ pays_within (earlier_pays t) → later ≡ pays_within (later_pays t) → (earlier && later) ≡ pays_within (pays_of t)
-ten_within t e l = ap₂ ◌&&◌ e l ∙ sym (within_both (earlier_pays t) (later_pays t))
 
 pub accepted_ten_pays : (t : TenPays) → ten_pays_refusal t ≡ 0 → TenPaysBounds t
 unfolding ten_pays_refusal

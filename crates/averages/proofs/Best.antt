@@ -1,13 +1,13 @@
 -- The best three consecutive years: no other three have a higher sum, and no later three have the same. A higher pay gives no lower a pension.
 use Prim.Native.Nat.{ℕ, ◌+◌, ◌≤◌, ◌<◌}
-use mathlib.Core.Path.{◌≡◌, refl, ◌∙◌, ap}
+use mathlib.Core.Path.{◌≡◌, refl, ap}
 use mathlib.Core.Bool.{Bool, true, false, cond}
 use mathlib.Core.List.{List, [], ◌∷◌, ◌++◌, map}
 use native.Mathlib.Nat.{le_trans, le_refl, mul-le-mul}
 use native.Mathlib.Omega.{arith}
 use lib.Dec.{ltb}
 use lib.ListN.{length}
-use borrow.Author.Tests.{ltb-true, ltb-false, lt-ltb, le-ltb}
+use borrow.Author.Tests.{ltb-true, ltb-false}
 use Rattle.measures.specs.Lists.{All}
 use Rattle.measures.proofs.Lists.{all_map}
 use Rattle.measures.proofs.Rounding.{rounded_mono}
@@ -45,16 +45,6 @@ module _ (sum year : ℕ) (later : Three) where
       by : (t : Bool) → ltb later.sum.0 sum ≡ t → later.sum.0 ≤ (cond t (three sum year) later).sum.0
       by true e = omega (arith, ltb-true)
       by false e = le_refl later.sum.0
-
-  -- by comparing the sums
-  module _ {earlier : Three} (is : earlier ≡ three sum year) where
-    pub earlier_taken : later.sum.0 < earlier.sum.0 → earlier ≡ better sum year later
-    unfolding better
-    earlier_taken h = is ∙ rw (lt-ltb later.sum.0 sum (rw is at h)) refl
-
-    pub later_taken : earlier.sum.0 ≤ later.sum.0 → later ≡ better sum year later
-    unfolding better
-    later_taken h = rw (le-ltb later.sum.0 sum (rw is at h)) refl
 
 pub best_highest : (ss : List ℕ) → AllAtMost (best_of ss).sum.0 ss
 unfolding best_of

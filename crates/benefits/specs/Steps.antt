@@ -4,8 +4,7 @@ use Rattle.std.specs.Prelude.{ℕ, ◌+◌, ◌*◌, ◌-◌, ◌/◌, ◌%◌, 
 use Rattle.measures.specs.Rounding.{rounded, way, upward}
 use Rattle.measures.specs.Limits.{highest_pay}
 use Rattle.measures.specs.Refusals.{within, unless, first_refusal}
-use Rattle.measures.specs.Answers.{answer_with}
-use Rattle.measures.specs.declared.Answer.{Answer}
+use Rattle.measures.specs.Answers.{Answer, answer_with}
 use Rattle.measures.specs.declared.Way.{Way}
 use Rattle.benefits.specs.declared.FinalPay.{FinalPay}
 use Rattle.benefits.specs.declared.BestPay.{BestPay}

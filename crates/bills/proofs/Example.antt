@@ -2,7 +2,7 @@
 use mathlib.Core.Path.{◌≡◌, refl}
 use Rattle.measures.specs.Rounding.{rounded}
 use Rattle.measures.specs.Answers.{answer_of_two}
-use Rattle.measures.specs.declared.AnswerOfTwo.{AnswerOfTwo}
+use Rattle.std.proofs.Common.{Ok}
 use Rattle.benefits.specs.declared.FinalPay.{FinalPay}
 use Rattle.benefits.specs.Steps.{final_pay, final_year, section_pension, controlled, raised, allowed_from, allowed3, allowed2, excess_pension, charge_from, pays_within, terms_within, final_pay_refusal}
 use Rattle.bills.specs.declared.Change.{Change}
@@ -34,7 +34,7 @@ change =
       price_increase = 20;
     }
 
-pub example_3 : change_answer pays change ≡ AnswerOfTwo.Amounts (record { one = record { 0 = 6323114 }; other = record { 0 = 2256339 } })
+pub example_3 : change_answer pays change ≡ Ok (record { one = record { 0 = 6323114 }; other = record { 0 = 2256339 } })
 unfolding rounded answer_of_two final_pay final_year section_pension controlled raised allowed_from allowed3 allowed2 excess_pension charge_from pays_within terms_within final_pay_refusal annualised old_excess new_excess charge_in old_charge new_charge parts_within days_within change_refusal change_answer
 example_3 = refl
 
@@ -63,6 +63,6 @@ one_day =
       price_increase = 1000;
     }
 
-pub largest_reached : change_answer largest one_day ≡ AnswerOfTwo.Amounts (record { one = record { 0 = 42294375000000 }; other = record { 0 = 57937500000 } })
+pub largest_reached : change_answer largest one_day ≡ Ok (record { one = record { 0 = 42294375000000 }; other = record { 0 = 57937500000 } })
 unfolding rounded answer_of_two final_pay final_year section_pension controlled raised allowed_from allowed3 allowed2 excess_pension charge_from pays_within terms_within final_pay_refusal annualised old_excess new_excess charge_in old_charge new_charge parts_within days_within change_refusal change_answer
 largest_reached = refl

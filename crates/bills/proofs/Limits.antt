@@ -38,6 +38,9 @@ module _ (f : FinalPay) (c : Change) (b : ChangeBounds f c) where
   unfolding new_excess
   new_excess_limit = omega (arith, b.final_pay.pay1)
 
+-- past the refusal the numbers and the excesses are in bounds
+pub ruleset bounds = (accepted_change, old_excess_limit, new_excess_limit)
+
 -- for any limit on the excess
 charge_in_limit : (k year over : ℕ) (f : FinalPay) → FinalPayBounds f → over ≤ 16 * k → charge_in f year over ≤ 927 * k
 unfolding charge_in

@@ -3,8 +3,7 @@ use Rattle.std.specs.Prelude.{ℕ, ◌+◌, ◌*◌, ◌-◌, Bool, ◌&&◌, co
 use Rattle.measures.specs.Rounding.{rounded, way, upward}
 use Rattle.measures.specs.Limits.{highest_pay}
 use Rattle.measures.specs.Refusals.{unless, first_refusal}
-use Rattle.measures.specs.Answers.{answer_of_two}
-use Rattle.measures.specs.declared.AnswerOfTwo.{AnswerOfTwo}
+use Rattle.measures.specs.Answers.{AnswerOfTwo, answer_of_two}
 use Rattle.measures.specs.declared.Way.{Way}
 use Rattle.benefits.specs.declared.FinalPay.{FinalPay}
 use Rattle.benefits.specs.Limits.{highest_allowance}

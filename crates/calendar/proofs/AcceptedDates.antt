@@ -79,3 +79,6 @@ module _ (birth retirement : Date) (pensionAge : ℕ) (h : dates_refusal birth r
   pub refused_number : pos 0 ≡ dates_number birth retirement pensionAge
   unfolding dates_number
   refused_number = rw (ne_eqb _ 0 h)
+
+-- what the dates call takes
+pub ruleset answers = (accepted, accepted_age, accepted_number, refused_number, refused_5)

@@ -69,3 +69,8 @@ module _ (birth retirement : Date) (pensionAge n : ℕ) (e : pos n ≡ completed
   pub late_months : 12 * pensionAge ≤ n → neg_ℤ (pos (n - 12 * pensionAge)) ≡ months_early birth retirement pensionAge
   unfolding months_early
   late_months h = sym (more (12 * pensionAge) n h) ∙ ap (λ (z : ℤ). pos (12 * pensionAge) -ℤ z) e
+
+-- what the count of months takes, and what the difference from pension age takes
+pub ruleset counted = (ordered_short, completed_short, completed_full)
+
+pub ruleset differences = (early_months, late_months, completed_bound)

@@ -6,11 +6,7 @@ use lib.IntN.{ℤ, pos, neg_ℤ, ◌-ℤ◌}
 use mir.Syntax.{w64}
 use mir.Val.{SFits, to_z, of_z}
 use mir.Facts.{to_z-of_z}
-use Rattle.measures.specs.declared.Months.{Months}
-use Rattle.calendar.specs.declared.MonthsEarly.{MonthsEarly}
-use Rattle.calendar.specs.declared.DatesAnswer.{DatesAnswer}
-use Rattle.calendar.specs.Dates.{months_of, months_given}
-use Rattle.calendar.specs.Ranges.{most_late, AnswerBounded}
+use Rattle.calendar.specs.Ranges.{most_late}
 use Rattle.measures.proofs.Integers.{more}
 
 module _ (n : ℕ) (h : n ≤ most_late) where
@@ -39,18 +35,5 @@ module _ (n : ℕ) (h : n ≤ most_late) where
   pub late_read : to_z w64 (of_z w64 (pos 0 -ℤ to_z w64 n)) ≡ neg_ℤ (pos n)
   late_read = to_z-of_z late_fits ∙ minus
 
--- what is known of an answer by its cases
-module _ {answer : DatesAnswer} {months : MonthsEarly} {m : Months} (a : answer ≡ DatesAnswer.Months months) (h : AnswerBounded answer) where
-  pub early_bound : months ≡ MonthsEarly.Early m → m.0 ≤ most_late
-  early_bound e = let b = rw (a, e) at h in omega arith
-
-  pub late_bound : months ≡ MonthsEarly.Late m → m.0 ≤ most_late
-  late_bound e = let b = rw (a, e) at h in omega arith
-
-  pub early_given : months ≡ MonthsEarly.Early m → pos m.0 ≡ months_given answer
-  unfolding months_given months_of
-  early_given e = rw (a, e)
-
-  pub late_given : months ≡ MonthsEarly.Late m → neg_ℤ (pos m.0) ≡ months_given answer
-  unfolding months_given months_of
-  late_given e = rw (a, e)
+-- either
+pub ruleset reads = (months_read, late_read)

@@ -1,9 +1,8 @@
 -- Document 01, "Months early", with request 2.3, and what refusal 5 says of dates and pension age.
-use Rattle.std.specs.Prelude.{ℕ, ◌+◌, ◌*◌, ◌%◌, Bool, ◌&&◌, ◌||◌, not, cond, ltb, eqb, ℤ, pos, neg_ℤ, ◌-ℤ◌}
+use Rattle.std.specs.Prelude.{ℕ, ◌+◌, ◌*◌, ◌%◌, Bool, ◌&&◌, ◌||◌, not, cond, ltb, eqb, ℤ, pos, neg_ℤ, ◌-ℤ◌, Result, Ok, Err}
 use Rattle.measures.specs.Refusals.{within, unless}
 use Rattle.calendar.specs.declared.Date.{Date}
 use Rattle.calendar.specs.declared.MonthsEarly.{MonthsEarly}
-use Rattle.calendar.specs.declared.DatesAnswer.{DatesAnswer}
 
 -- a date of year, month and day
 abbrev pub date_of : ℕ → ℕ → ℕ → Date
@@ -59,15 +58,19 @@ unfoldable pub months_of : MonthsEarly → ℤ
 months_of (MonthsEarly.Early months) = pos months.0
 months_of (MonthsEarly.Late months) = neg_ℤ (pos months.0)
 
+-- what the dates call gives: the months early, or the number of its refusal
+abbrev pub DatesAnswer : Type 0
+DatesAnswer = Result MonthsEarly ℕ
+
 -- the refusal of an answer of the dates call, 0 for none
 unfoldable pub refusal_given : DatesAnswer → ℕ
-refusal_given (DatesAnswer.Months months) = 0
-refusal_given (DatesAnswer.Refused number) = number
+refusal_given (Ok months) = 0
+refusal_given (Err number) = number
 
 -- its number: "Each of these calls .. gives 0 for its number when refused."
 unfoldable pub months_given : DatesAnswer → ℤ
-months_given (DatesAnswer.Months months) = months_of months
-months_given (DatesAnswer.Refused number) = pos 0
+months_given (Ok months) = months_of months
+months_given (Err number) = pos 0
 
 -- the number that the dates call gives: months early, 0 when refused
 unfoldable pub dates_number : Date → Date → ℕ → ℤ

@@ -1,9 +1,8 @@
 -- How large the numbers of dates that stand, and of months early, are: what the functions below the dates call ask.
-use Rattle.std.specs.Prelude.{ℕ, ◌≤◌, false, ◌≡◌}
+use Rattle.std.specs.Prelude.{ℕ, ◌≤◌, false, ◌≡◌, Ok, Err}
 use Rattle.calendar.specs.declared.Date.{Date}
 use Rattle.calendar.specs.declared.MonthsEarly.{MonthsEarly}
-use Rattle.calendar.specs.declared.DatesAnswer.{DatesAnswer}
-use Rattle.calendar.specs.Dates.{is_before}
+use Rattle.calendar.specs.Dates.{is_before, DatesAnswer}
 
 -- the most months late: 2,411 months, from January 1900 to December 2100, less those of pension age 55
 abbrev pub most_late : ℕ
@@ -16,8 +15,8 @@ Bounded (MonthsEarly.Late months) = months.0 ≤ most_late
 
 -- an answer of the dates call: bounded months, or refusal 5
 abbrev pub AnswerBounded : DatesAnswer → Type 0
-AnswerBounded (DatesAnswer.Months months) = Bounded months
-AnswerBounded (DatesAnswer.Refused number) = number ≡ 5
+AnswerBounded (Ok months) = Bounded months
+AnswerBounded (Err number) = number ≡ 5
 
 -- what the numbers of a date that stands keep to
 pub record InRange (d : Date) : Type 0 where

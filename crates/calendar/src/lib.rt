@@ -2,13 +2,14 @@
 #![tactic(auto)]
 
 ghost use Rattle.std.specs.Prelude.{◌≡◌, ◌≤◌, pos};
+ghost use Rattle.measures.specs.Refusals.{refused_by, numbered};
 ghost use Rattle.calendar.specs.Dates.{is_leap, month_length, date_stands, is_before, dates_refusal, completing_day, completed_months, months_early, months_of, refusal_given, months_given, dates_number};
 ghost use Rattle.calendar.specs.Ranges.{Bounded, AnswerBounded, Accepted};
 
-use measures::Months;
+use measures::{Months, Refusal};
 
-// A day of the calendar.
-#[derive(Clone, Copy)]
+// A day of the calendar; an earlier one is less.
+#[derive(Clone, Copy, PartialEq, Eq, PartialOrd, Ord)]
 pub struct Date {
     pub year: u64,
     pub month: u64,
@@ -22,14 +23,8 @@ pub enum MonthsEarly {
     Late(Months),
 }
 
-// What the dates call gives: the months early, or the number of its refusal.
-#[derive(Clone, Copy)]
-pub enum DatesAnswer {
-    Months(MonthsEarly),
-    Refused(u64),
-}
-
 // Whether February of the year has 29 days.
+#[tactic(auto, using(measures::proofs::Tests::tests), unfolding(crate::specs::Dates::is_leap))]
 fn is_leap(year: u64) -> bool
     ensures { result ≡ is_leap year }
 {
@@ -37,16 +32,15 @@ fn is_leap(year: u64) -> bool
 }
 
 // The length of February.
+#[tactic(auto, using(measures::proofs::Tests::tests), unfolding(crate::specs::Dates::month_length))]
 fn february(year: u64) -> u64
     ensures { result ≡ month_length year 2 }
 {
-    if is_leap(year) {
-        return 29;
-    }
-    28
+    if is_leap(year) { 29 } else { 28 }
 }
 
 // The days of a month; 0 for a month that there is not.
+#[tactic(auto, using(measures::proofs::Tests::tests), unfolding(crate::specs::Dates::month_length))]
 pub fn month_length(year: u64, month: u64) -> u64
     ensures { result ≡ month_length year month }
 {
@@ -63,72 +57,46 @@ pub fn month_length(year: u64, month: u64) -> u64
 pub fn date_stands(d: Date) -> bool
     ensures { result ≡ date_stands d }
 {
-    if d.year < 1900 {
-        return false;
-    }
-    if 2100 < d.year {
-        return false;
-    }
-    if d.month < 1 {
-        return false;
-    }
-    if 12 < d.month {
-        return false;
-    }
-    if d.day < 1 {
-        return false;
-    }
-    d.day <= month_length(d.year, d.month)
+    (1900..=2100).contains(&d.year)
+        && (1..=12).contains(&d.month)
+        && (1..=month_length(d.year, d.month)).contains(&d.day)
 }
 
 // Whether a is an earlier day than b.
+#[tactic(auto, using(measures::proofs::Tests::tests), unfolding(crate::specs::Dates::is_before))]
 pub fn is_before(a: Date, b: Date) -> bool
     ensures { result ≡ is_before a b }
 {
-    if a.year != b.year {
-        return a.year < b.year;
-    }
-    if a.month != b.month {
-        return a.month < b.month;
-    }
-    a.day < b.day
+    a < b
 }
 
-// 5 where a date does not stand, retirement is before birth, or the pension age is outside 55 to 75; else 0.
+// Refused where a date does not stand, retirement is before birth, or the pension age is outside 55 to 75.
 #[tactic(auto, using(measures::proofs::Tests::tests), unfolding(crate::specs::Dates::dates_refusal))]
-pub fn dates_refusal(birth: Date, retirement: Date, pension_age: u64) -> u64
-    ensures { result ≡ dates_refusal birth retirement pension_age }
+pub fn check_dates(birth: Date, retirement: Date, pension_age: u64) -> Result<(), Refusal>
+    ensures { refused_by result ≡ dates_refusal birth retirement pension_age }
 {
-    if !date_stands(birth) {
-        return 5;
+    if date_stands(birth)
+        && date_stands(retirement)
+        && !is_before(retirement, birth)
+        && (55..=75).contains(&pension_age)
+    {
+        return Ok(());
     }
-    if !date_stands(retirement) {
-        return 5;
-    }
-    if is_before(retirement, birth) {
-        return 5;
-    }
-    if pension_age < 55 {
-        return 5;
-    }
-    if 75 < pension_age {
-        return 5;
-    }
-    0
+    Err(Refusal::Dates)
 }
 
 // The day that completes the month of retirement: the birth day, or the last day of a month too short for it.
+#[tactic(auto, using(measures::proofs::Tests::tests), unfolding(crate::specs::Dates::completing_day))]
 fn completing_day(birth: Date, retirement: Date) -> u64
     ensures { result ≡ completing_day birth retirement }
 {
     let last = month_length(retirement.year, retirement.month);
-    if last < birth.day {
-        return last;
-    }
-    birth.day
+    birth.day.min(last)
 }
 
-// The age at retirement, in completed months.
+// The age at retirement, in completed months. `Accepted` stays a clause: a type for two dates and an age would be made of a member's at
+// each call, and tells no more.
+#[tactic(auto, using(crate::proofs::CountedMonths::counted))]
 pub fn completed_months(birth: Date, retirement: Date) -> Months
     requires { Accepted birth retirement }
     ensures { pos result.0 ≡ completed_months birth retirement }
@@ -141,6 +109,7 @@ pub fn completed_months(birth: Date, retirement: Date) -> Months
 }
 
 // How long before pension age retirement is, or how long after it.
+#[tactic(auto, using(crate::proofs::CountedMonths::differences), unfolding(crate::specs::Dates::months_of))]
 pub fn months_early(birth: Date, retirement: Date, pension_age: u64) -> MonthsEarly
     requires dates { Accepted birth retirement }
     requires age { (55 ≤ pension_age) × (pension_age ≤ 75) }
@@ -155,39 +124,26 @@ pub fn months_early(birth: Date, retirement: Date, pension_age: u64) -> MonthsEa
     MonthsEarly::Late(Months(age.0 - due))
 }
 
-// The dates call: months early of any numbers whatever, or refusal 5.
-pub fn dates_call(birth: Date, retirement: Date, pension_age: u64) -> DatesAnswer
-    ensures refusal { refusal_given result ≡ dates_refusal birth retirement pension_age }
-    ensures months { months_given result ≡ dates_number birth retirement pension_age }
-    ensures bounds { AnswerBounded result }
+// The dates call: months early of any numbers whatever, or the refusal of dates.
+#[tactic(auto, using(measures::proofs::Refused::never_nought, crate::proofs::AcceptedDates::answers), unfolding(crate::specs::Dates::refusal_given, crate::specs::Dates::months_given))]
+pub fn dates_call(birth: Date, retirement: Date, pension_age: u64) -> Result<MonthsEarly, Refusal>
+    ensures refusal { refusal_given (numbered result) ≡ dates_refusal birth retirement pension_age }
+    ensures months { months_given (numbered result) ≡ dates_number birth retirement pension_age }
+    ensures bounds { AnswerBounded (numbered result) }
 {
-    let refusal = dates_refusal(birth, retirement, pension_age);
-    if refusal != 0 {
-        return DatesAnswer::Refused(refusal);
-    }
-    DatesAnswer::Months(months_early(birth, retirement, pension_age))
+    check_dates(birth, retirement, pension_age)?;
+    Ok(months_early(birth, retirement, pension_age))
 }
 
-// The refusal of an answer of the dates call, 0 for none.
-pub fn refusal_number(answer: DatesAnswer) -> u64
-    ensures { result ≡ refusal_given answer }
+// The number of an answer of the dates call, below 0 for months late, 0 for a refusal. No `From`, which may require nothing.
+#[tactic(auto, using(crate::proofs::SignedMonths::reads), unfolding(crate::specs::Dates::months_of, crate::specs::Dates::months_given))]
+pub fn signed(answer: Result<MonthsEarly, Refusal>) -> i64
+    requires { AnswerBounded (numbered answer) }
+    ensures { result ≡ months_given (numbered answer) }
 {
     match answer {
-        DatesAnswer::Months(_) => 0,
-        DatesAnswer::Refused(number) => number,
-    }
-}
-
-// The number of an answer of the dates call, below 0 for months late.
-pub fn signed(answer: DatesAnswer) -> i64
-    requires { AnswerBounded answer }
-    ensures { result ≡ months_given answer }
-{
-    match answer {
-        DatesAnswer::Months(months) => match months {
-            MonthsEarly::Early(m) => m.0 as i64,
-            MonthsEarly::Late(m) => 0 - (m.0 as i64),
-        },
-        DatesAnswer::Refused(_) => 0,
+        Ok(MonthsEarly::Early(months)) => months.0 as i64,
+        Ok(MonthsEarly::Late(months)) => -(months.0 as i64),
+        Err(_) => 0,
     }
 }

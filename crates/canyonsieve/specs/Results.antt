@@ -4,7 +4,7 @@ use Rattle.measures.specs.Answers.{number_unless}
 use Rattle.benefits.specs.declared.FinalPay.{FinalPay}
 use Rattle.bills.specs.declared.Change.{Change}
 use Rattle.bills.specs.Employers.{old_charge, new_charge, change_refusal}
-use Rattle.rules.specs.declared.Outcome.{Outcome}
+use Rattle.rules.specs.Outcomes.{Outcome}
 use Rattle.rules.specs.Working.{number_of, line_of, amounts_given}
 use Rattle.canyonsieve.specs.declared.ChargeFigures.{ChargeFigures}
 use Rattle.canyonsieve.specs.declared.CaseFigures.{CaseFigures}

@@ -1,30 +1,32 @@
 // The charges of two employers, for payroll code in C.
 ghost use Rattle.std.specs.Prelude.{◌≡◌};
 ghost use Rattle.measures.specs.Answers.{refusal_of_two, one_amount, other_amount};
+ghost use Rattle.measures.specs.Refusals.{numbered};
 ghost use Rattle.canyonsieve.specs.Results.{final_pay_of, change_of, BothCharges};
 
 use super::ChargeFigures;
 use benefits::FinalPay;
 use bills::{Change, change_call};
-use measures::{AnswerOfTwo, Pence};
+use measures::{Pence, Refusal, TwoAmounts};
 
 // The refusal and both charges of an answer.
-fn charge_figures(answer: AnswerOfTwo) -> ChargeFigures
-    ensures refusal { result.refusal ≡ refusal_of_two answer }
-    ensures old { result.old_charge ≡ one_amount answer }
-    ensures new { result.new_charge ≡ other_amount answer }
-{
-    match answer {
-        AnswerOfTwo::Amounts(charges) => ChargeFigures {
-            refusal: 0,
-            old_charge: charges.one.0,
-            new_charge: charges.other.0,
-        },
-        AnswerOfTwo::Refused(number) => ChargeFigures {
-            refusal: number,
-            old_charge: 0,
-            new_charge: 0,
-        },
+impl From<Result<TwoAmounts, Refusal>> for ChargeFigures {
+    ghost from_gives = { λ answer figures. (figures.refusal ≡ refusal_of_two (numbered answer)) × (figures.old_charge ≡ one_amount (numbered answer)) × (figures.new_charge ≡ other_amount (numbered answer)) };
+
+    #[tactic(auto, unfolding(measures::specs::Answers::refusal_of_two, measures::specs::Answers::one_amount, measures::specs::Answers::other_amount))]
+    fn from(answer: Result<TwoAmounts, Refusal>) -> ChargeFigures {
+        match answer {
+            Ok(charges) => ChargeFigures {
+                refusal: 0,
+                old_charge: charges.one.0,
+                new_charge: charges.other.0,
+            },
+            Err(refusal) => ChargeFigures {
+                refusal: u64::from(refusal),
+                old_charge: 0,
+                new_charge: 0,
+            },
+        }
     }
 }
 
@@ -69,5 +71,5 @@ pub extern "C" fn canyonsieve_change_of_employer(
         new_days,
         price_increase,
     };
-    charge_figures(change_call(f, c))
+    ChargeFigures::from(change_call(f, c))
 }

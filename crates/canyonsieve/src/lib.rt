@@ -5,10 +5,12 @@ mod employers;
 
 ghost use Rattle.std.specs.Prelude.{◌≡◌, length};
 ghost use Rattle.measures.specs.Answers.{answer_refusal, answer_amount, number_unless};
+ghost use Rattle.measures.specs.Refusals.{numbered};
 ghost use Rattle.calendar.specs.Dates.{date_of, dates_refusal, dates_number};
 ghost use Rattle.posts.specs.Posts.{aggregate_pay};
 ghost use Rattle.posts.specs.Call.{posts_in, call_refusal, places_after};
 ghost use Rattle.benefits.specs.Steps.{final_pay_refusal, charge, abatement_refusal, abatement};
+ghost use Rattle.rules.specs.Outcomes.{outcome_numbers};
 ghost use Rattle.rules.specs.Rules.{kept};
 ghost use Rattle.rules.specs.Working.{amounts_given};
 ghost use Rattle.rules.specs.Rivals.{Largest};
@@ -16,11 +18,11 @@ ghost use Rattle.texts.specs.Text.{frames_of, work_text};
 ghost use Rattle.canyonsieve.specs.Results.{final_pay_of, Flat};
 
 use benefits::{FinalPay, abatement_call, charge_call};
-use calendar::{Date, dates_call, refusal_number, signed};
+use calendar::{Date, dates_call, signed};
 pub use employers::canyonsieve_change_of_employer;
-use measures::{Answer, Pence};
+use measures::{Pence, Refusal, number_beside};
 use posts::posts_call;
-use rules::Outcome;
+use rules::{Amounts, RefusalAt};
 use texts::work_text;
 
 // A refusal, 0 for none, and the number beside it, 0 when refused.
@@ -50,7 +52,7 @@ pub struct ChargeFigures {
 
 // A refusal with its line, 0 for none, and the amounts in pence with the count of upward roundings, all 0 when refused.
 #[repr(C)]
-#[derive(Clone, Copy)]
+#[derive(Clone, Copy, Default)]
 pub struct CaseFigures {
     pub refusal: u64,
     pub line: u64,
@@ -62,18 +64,21 @@ pub struct CaseFigures {
 }
 
 // The refusal and the number of an answer.
-fn figure_of(answer: Answer) -> Figure
-    ensures { (result.refusal ≡ answer_refusal answer) × (result.number ≡ answer_amount answer) }
-{
-    match answer {
-        Answer::Amount(amount) => Figure {
-            refusal: 0,
-            number: amount.0,
-        },
-        Answer::Refused(number) => Figure {
-            refusal: number,
-            number: 0,
-        },
+impl From<Result<Pence, Refusal>> for Figure {
+    ghost from_gives = { λ answer figure. (figure.refusal ≡ answer_refusal (numbered answer)) × (figure.number ≡ answer_amount (numbered answer)) };
+
+    #[tactic(auto, unfolding(measures::specs::Answers::answer_refusal, measures::specs::Answers::answer_amount))]
+    fn from(answer: Result<Pence, Refusal>) -> Figure {
+        match answer {
+            Ok(amount) => Figure {
+                refusal: 0,
+                number: amount.0,
+            },
+            Err(refusal) => Figure {
+                refusal: u64::from(refusal),
+                number: 0,
+            },
+        }
     }
 }
 
@@ -84,12 +89,12 @@ pub extern "C" fn canyonsieve_posts(posts: &[u8], parts: &mut [u64]) -> Figure
     ensures number { result.number ≡ number_unless (call_refusal posts.now (length parts.old)) (aggregate_pay (posts_in posts.now)) }
     ensures places { parts.new ≡ places_after posts.now parts.old }
 {
-    let answer = posts_call(posts, parts);
-    figure_of(answer)
+    Figure::from(posts_call(posts, parts))
 }
 
 // Months early between a birth and a retirement.
 #[unsafe(no_mangle)]
+#[tactic(auto, unfolding(calendar::specs::Dates::refusal_given))]
 pub extern "C" fn canyonsieve_months_early(
     birth_year: u64,
     birth_month: u64,
@@ -113,9 +118,10 @@ pub extern "C" fn canyonsieve_months_early(
         day: retirement_day,
     };
     let answer = dates_call(birth, retirement, pension_age);
-    let refusal = refusal_number(answer);
-    let months = signed(answer);
-    MonthsFigure { refusal, months }
+    MonthsFigure {
+        refusal: number_beside(answer.err()),
+        months: signed(answer),
+    }
 }
 
 // The employer's final pay charge in pence, from the ten numbers of a final pay frame.
@@ -135,6 +141,7 @@ pub extern "C" fn canyonsieve_charge(
     ensures refusal { result.refusal ≡ final_pay_refusal (final_pay_of pay4 pay3 pay2 pay1 allowance3 allowance2 allowance1 controls days factor) }
     ensures number { result.number ≡ number_unless (final_pay_refusal (final_pay_of pay4 pay3 pay2 pay1 allowance3 allowance2 allowance1 controls days factor)) (charge (final_pay_of pay4 pay3 pay2 pay1 allowance3 allowance2 allowance1 controls days factor)) }
 {
+    // Written out here and for a change of employer: a function that takes ten numbers would name each of them three times more.
     let f = FinalPay {
         pay4: Pence(pay4),
         pay3: Pence(pay3),
@@ -147,7 +154,7 @@ pub extern "C" fn canyonsieve_charge(
         days,
         factor,
     };
-    figure_of(charge_call(f))
+    Figure::from(charge_call(f))
 }
 
 // The reduction of a pension on new pay, in pence.
@@ -161,7 +168,7 @@ pub extern "C" fn canyonsieve_abatement(
     ensures refusal { result.refusal ≡ abatement_refusal pension earned previous_pay new_pay }
     ensures number { result.number ≡ number_unless (abatement_refusal pension earned previous_pay new_pay) (abatement pension earned previous_pay new_pay) }
 {
-    figure_of(abatement_call(
+    Figure::from(abatement_call(
         Pence(pension),
         Pence(earned),
         Pence(previous_pay),
@@ -169,37 +176,37 @@ pub extern "C" fn canyonsieve_abatement(
     ))
 }
 
-// The numbers of an outcome.
-fn case_figures(outcome: Outcome) -> CaseFigures
-    ensures { Flat outcome result }
-{
-    match outcome {
-        Outcome::Worked(a) => CaseFigures {
-            refusal: 0,
-            line: 0,
-            net_2015: a.net_2015.0,
-            net_1995: a.net_1995.0,
-            net_lump_sum: a.net_lump_sum.0,
-            charge: a.charge.0,
-            rounded_up: a.ups,
-        },
-        Outcome::Refused(r) => CaseFigures {
-            refusal: r.number,
-            line: r.line,
-            net_2015: 0,
-            net_1995: 0,
-            net_lump_sum: 0,
-            charge: 0,
-            rounded_up: 0,
-        },
+// The numbers of what a case comes to.
+impl From<Result<Amounts, RefusalAt>> for CaseFigures {
+    ghost from_gives = { λ outcome figures. Flat (outcome_numbers outcome) figures };
+
+    #[tactic(auto, unfolding(rules::specs::Working::number_of, rules::specs::Working::line_of, rules::specs::Working::amounts_given))]
+    fn from(outcome: Result<Amounts, RefusalAt>) -> CaseFigures {
+        match outcome {
+            Ok(a) => CaseFigures {
+                refusal: 0,
+                line: 0,
+                net_2015: a.net_2015.0,
+                net_1995: a.net_1995.0,
+                net_lump_sum: a.net_lump_sum.0,
+                charge: a.charge.0,
+                rounded_up: a.ups,
+            },
+            Err(r) => CaseFigures {
+                refusal: u64::from(r.refusal),
+                line: r.line,
+                ..CaseFigures::default()
+            },
+        }
     }
 }
 
 // A whole case in a text.
 #[unsafe(no_mangle)]
+#[tactic(auto, using(texts::proofs::Worked::largest_given))]
 pub extern "C" fn canyonsieve_case(text: &[u8]) -> CaseFigures
     ensures figures { Flat (work_text text.now) result }
     ensures largest { result.refusal ≡ 0 → Largest (kept (frames_of text.now)) (amounts_given (work_text text.now)) }
 {
-    case_figures(work_text(text))
+    CaseFigures::from(work_text(text))
 }

@@ -7,7 +7,7 @@ use lib.Seq.{take-suc}
 use native.Mathlib.Omega.{arith}
 use Rattle.input.specs.declared.Reading.{Reading}
 use Rattle.input.specs.Reading.{failed_mark, ReadInto}
-use Rattle.rules.specs.declared.Outcome.{Outcome}
+use Rattle.rules.specs.Outcomes.{Outcome}
 use Rattle.texts.specs.Text.{work_text}
 use Rattle.texts.proofs.CutShort.{cut_short}
 use Rattle.case_program.specs.Answered.{Answered}

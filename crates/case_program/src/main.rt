@@ -2,10 +2,11 @@
 #![tactic(auto)]
 
 ghost use Rattle.input.specs.Reading.{ReadInto};
+ghost use Rattle.rules.specs.Outcomes.{outcome_numbers};
 ghost use Rattle.case_program.specs.Answered.{Answered};
 
 use input::{Reading, read_input};
-use rules::Outcome;
+use rules::{Amounts, RefusalAt};
 use std::env::{Env, FillError};
 use std::fmt::{self, Write};
 use std::io::{Error, Read};
@@ -32,23 +33,22 @@ impl<E: Eprint> fmt::Write for Words<'_, E> {
 
 // Tells on standard error what failed, with the system's words.
 fn fail(rt: &impl Eprint, what: &str, error: Error) {
-    let _ = rt.eprint(what);
-    let _ = rt.eprint(": ");
+    let _ = eprint!(rt; "{what}: ");
     let mut words = Words {
         to: rt,
         is_over: false,
     };
     let _ = write!(words, "{error}");
-    let _ = rt.eprint("\n");
+    let _ = eprintln!(rt);
 }
 
 // Works what was read.
-fn answer(buffer: &[u8], given: Reading) -> Outcome
+#[tactic(auto, using(crate::proofs::CutShort::answered))]
+fn answer(buffer: &[u8], given: Reading) -> Result<Amounts, RefusalAt>
     requires { ReadInto buffer.now given }
-    ensures { Answered buffer.now given result }
+    ensures { Answered buffer.now given (outcome_numbers result) }
 {
-    let n = given.count;
-    work_text(&buffer[..n])
+    work_text(&buffer[..given.count])
 }
 
 // Reads the text, works it and writes its line. A read or a write that failed is told on standard error too, with the system's words.
@@ -60,9 +60,7 @@ fn work<R: Read>(reader: &mut R, rt: &(impl Print + Eprint)) {
         fail(rt, "canyonsieve-case: standard input", error);
     }
     let line = printed(answer(&buffer, given));
-    let bytes = line.bytes;
-    let count = line.count;
-    if let Err(error) = rt.write_all(&bytes[..count]) {
+    if let Err(error) = rt.write_all(line.as_bytes()) {
         fail(rt, "canyonsieve-case: standard output", error);
     }
 }
@@ -70,16 +68,13 @@ fn work<R: Read>(reader: &mut R, rt: &(impl Print + Eprint)) {
 // Whether the program was started with an argument.
 fn has_arguments(rt: &HostRuntime) -> bool {
     let mut room = [0u8; 1];
-    match rt.arg(1, &mut room) {
-        Err(FillError::NotPresent) => false,
-        Ok(_) | Err(FillError::TooLong) => true,
-    }
+    !matches!(rt.arg(1, &mut room), Err(FillError::NotPresent))
 }
 
 fn main(rt: HostRuntime) {
     if has_arguments(&rt) {
-        let _ = rt.eprint(
-            "usage: canyonsieve-case < TEXT    (no arguments; man canyonsieve-case)\n",
+        let _ = eprintln!(rt;
+            "usage: canyonsieve-case < TEXT    (no arguments; man canyonsieve-case)"
         );
         return;
     }

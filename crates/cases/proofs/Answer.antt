@@ -6,11 +6,12 @@ use lib.Dec.{eqb}
 use Rattle.measures.specs.Refusals.{unless, first_refusal}
 use Rattle.benefits.specs.Steps.{charge, charge_ups}
 use Rattle.rules.specs.declared.Amounts.{Amounts}
-use Rattle.rules.specs.declared.Outcome.{Outcome}
+use Rattle.std.specs.Prelude.{Err}
+use Rattle.rules.specs.Outcomes.{Outcome}
 use Rattle.rules.specs.Rules.{Frames, Kept, nothing, begun, has_section, in_section}
 use Rattle.rules.specs.Working.{own_aggregates, own_pay, gross2015, gross1995, gross_lump_sum, debit2015, debit1995, debit_lump_sum, charge_of, ups_from, section_ups, reduction2015, reduction1995, reduction_lump_sum, reduction_ups, debit_ups, charge_ups_of, ups_of, pay_there, factors_there, debits_fit, closing_of, amounts_of, worked_unless, answer_of}
 use Rattle.years.specs.Years.{pension_now, ups_now}
-use Rattle.section.specs.Section.{pay_held}
+use Rattle.section.specs.Section.{final_pay_of, pay_held}
 use Rattle.factors.specs.Factors.{factors_held}
 use Rattle.debits.specs.Debits.{debits_of, net_of}
 use Rattle.years.proofs.Years.{pension_now_lem, ups_now_lem}
@@ -46,19 +47,19 @@ module _ (c : Case) (k : Frames) (h : Holds c k) (g : Good k) where
   unfolding debit2015 debit1995 debit_lump_sum debit_ups has_section in_section
   debits_are = rw h.member (debits.debits_are c.debits k.debits h.debits k.member.section)
 
-  charge_is : charge c.section.pay ≡ charge_of k.pay
+  charge_is : charge (final_pay_of c.section.pay) ≡ charge_of k.pay
   charge_is = section.charge_held c.section k.pay h.section k.member.section g.pay
 
-  charge_ups_are : charge_ups c.section.pay ≡ charge_ups_of k.pay
+  charge_ups_are : charge_ups (final_pay_of c.section.pay) ≡ charge_ups_of k.pay
   charge_ups_are = section.charge_ups_held c.section k.pay h.section k.member.section g.pay
 
 -- the refusals at the end in one row
-in_row : (a b d : ℕ) (amounts : Amounts) → cond (eqb (first_refusal a b) 0) (worked_unless d amounts) (Outcome.Refused (record { number = first_refusal a b; line = 0 })) ≡ worked_unless (first_refusal a (first_refusal b d)) amounts
+in_row : (a b d : ℕ) (amounts : Amounts) → cond (eqb (first_refusal a b) 0) (worked_unless d amounts) (Err (record { number = first_refusal a b; line = 0 })) ≡ worked_unless (first_refusal a (first_refusal b d)) amounts
 unfolding worked_unless
 in_row a b d amounts = by (eqb a 0) refl (eqb b 0) refl
   where
     refused : ℕ → Outcome
-    refused n = Outcome.Refused (record { number = n; line = 0 })
+    refused n = Err (record { number = n; line = 0 })
 
     by : (s : Bool) → eqb a 0 ≡ s → (t : Bool) → eqb b 0 ≡ t
         → cond (eqb (cond s b a) 0) (worked_unless d amounts) (refused (cond s b a)) ≡ worked_unless (cond s (cond t d b) a) amounts

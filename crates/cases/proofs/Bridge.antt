@@ -4,7 +4,8 @@ use mathlib.Core.List.{List, [], ◌∷◌, ◌++◌}
 use borrow.Author.Tests.{eq-eqb}
 use Rattle.measures.specs.Tries.{tried, plain}
 use Rattle.measures.proofs.Trying.{after_meant, after_end, after_without, after_relates}
-use Rattle.frames.specs.declared.Decoded.{Decoded}
+use Rattle.std.specs.Prelude.{Ok, Err}
+use Rattle.frames.specs.Frames.{Decoded}
 use Rattle.rules.specs.Rules.{Kept, nothing, refusal_of_decoded, keep_decoded, kept, frames_meant}
 use Rattle.cases.specs.declared.Case.{Case}
 use Rattle.cases.specs.State.{start, refusal_of_case, next_of_case, after_all}
@@ -12,13 +13,13 @@ use Rattle.cases.proofs.Represents.{Represents, frame_agrees, frame_keeps}
 
 pub refusal_agrees : (c : Case) (k : Kept) (d : Decoded) → Represents c k → refusal_of_case c d ≡ refusal_of_decoded k d
 unfolding refusal_of_case refusal_of_decoded
-refusal_agrees c k (Decoded.Frame f) h = frame_agrees c k f h
-refusal_agrees c k (Decoded.Refused n) h = refl
+refusal_agrees c k (Ok f) h = frame_agrees c k f h
+refusal_agrees c k (Err n) h = refl
 
 keeps : (c : Case) (k : Kept) (d : Decoded) → Represents c k → refusal_of_decoded k d ≡ 0 → Represents (next_of_case c d) (keep_decoded k d)
 unfolding next_of_case keep_decoded refusal_of_decoded
-keeps c k (Decoded.Frame f) h r = frame_keeps c k f h r
-keeps c k (Decoded.Refused n) h r = h
+keeps c k (Ok f) h r = frame_keeps c k f h r
+keeps c k (Err n) h r = h
 
 pub represents : (ds : List Decoded) → Represents (after_all ds) (kept ds)
 unfolding after_all kept

@@ -3,5 +3,5 @@ pub mod Represents
 pub mod Bridge
 pub mod Answer
 pub mod Contracts
-pub mod TakingLaws
 pub mod Whole
+pub mod Sizes

@@ -3,8 +3,8 @@
 use mathlib.Core.Path.{◌≡◌, refl, sym, ◌∙◌, ap, ap₂}
 use mathlib.Core.List.{List, [], ◌∷◌, ◌++◌, map, append_assoc, append-nil}
 use Rattle.measures.specs.Tries.{after}
-use Rattle.frames.specs.declared.Decoded.{Decoded}
-use Rattle.rules.specs.declared.Outcome.{Outcome}
+use Rattle.frames.specs.Frames.{Decoded}
+use Rattle.rules.specs.Outcomes.{Outcome}
 use Rattle.rules.specs.Rules.{Kept, kept, refusals_from}
 use Rattle.cases.specs.declared.Case.{Case}
 use Rattle.cases.specs.declared.Taken.{Taken}

@@ -1,8 +1,9 @@
 -- "one claim over every whole list of frames, refused ones included, and not one for each frame": what it says of any engine whatever that meets the contracts of
 -- `start`, `take` and `close`.
 use Rattle.std.specs.Prelude.{ℕ, ◌≡◌, List, [], ◌∷◌}
-use Rattle.frames.specs.declared.Decoded.{Decoded}
-use Rattle.rules.specs.declared.Outcome.{Outcome}
+use Rattle.measures.specs.Refusals.{number_beside}
+use Rattle.frames.specs.Frames.{Decoded}
+use Rattle.rules.specs.Outcomes.{Outcome}
 use Rattle.rules.specs.Rules.{nothing, refusals_from}
 use Rattle.cases.specs.declared.Case.{Case}
 use Rattle.cases.specs.declared.Taken.{Taken}
@@ -10,7 +11,7 @@ use Rattle.cases.specs.State.{after_all}
 use Rattle.cases.specs.Running.{IsCase, TakenFrom, ClosedAfter}
 
 -- the contracts of the three methods, met by any functions whatever. What is offered is read by `decoded` where it comes in bytes (`take`), and is
--- `Decoded.Frame` of it where it is decoded already (`take_frame`).
+-- `Ok` of it where it is decoded already (`take_frame`).
 pub record Engine {X : Type 0} (read : X → Decoded) (start : Case) (take : Case → X → Taken) (close : Case → Outcome) : Type 0 where
   pub starts : IsCase start × (start ≡ after_all [])
   pub takes : (c : Case) (x : X) → IsCase c → TakenFrom c (read x) (take c x)
@@ -26,7 +27,7 @@ module _ {X : Type 0} (take : Case → X → Taken) where
   -- the refusals on the way, 0 for none
   unfoldable pub refusals : Case → List X → List ℕ
   refusals c [] = []
-  refusals c (x ∷ xs) = (take c x).refusal ∷ refusals (take c x).case xs
+  refusals c (x ∷ xs) = number_beside (take c x).refusal ∷ refusals (take c x).case xs
 
 -- of a whole list of frames the refusals are those of the rules, and "the case had after the list is closed" to the answer of the frames kept, of which no
 -- rival working has more

@@ -1,43 +1,42 @@
 // Closing a case: the refusals at the end, and the amounts.
 ghost use Rattle.std.specs.Prelude.{◌≡◌, List};
-ghost use Rattle.frames.specs.declared.Decoded.{Decoded};
-ghost use Rattle.cases.specs.State.{Bounds, open_refusal, outcome_of, after_all};
+ghost use Rattle.measures.specs.Refusals.{refused_by};
+ghost use Rattle.frames.specs.Frames.{Decoded};
+ghost use Rattle.rules.specs.Outcomes.{outcome_numbers};
+ghost use Rattle.cases.specs.State.{open_refusal, outcome_of, after_all};
 ghost use Rattle.cases.specs.Running.{IsCase, ClosedAfter};
 
 use super::Case;
-use super::order::MEMBER;
-use rules::{Outcome, Refusal};
+use super::order::Stage;
+use measures::Refusal;
+use rules::{Amounts, RefusalAt};
 
 impl Case {
-    // The refusal of the closing before the debits: 4, 12, 13, or 0.
-    fn open_refusal(self) -> u64
-        ensures { result ≡ open_refusal self }
+    // The refusals of the closing before the debits: 4, 12 and 13.
+    #[tactic(auto, using(measures::proofs::Tests::tests), unfolding(crate::specs::State::open_refusal))]
+    fn check_open(&self) -> Result<(), Refusal>
+        ensures { refused_by result ≡ open_refusal self.now }
     {
-        if self.stage < MEMBER {
-            return 4;
+        if self.stage == Stage::Empty {
+            return Err(Refusal::Order);
         }
         let section = self.member.section;
         if !self.section.is_complete(section) {
-            return 12;
+            return Err(Refusal::NoFinalPay);
         }
         if !self.factors.is_complete(section) {
-            return 13;
+            return Err(Refusal::NoFactor);
         }
-        0
+        Ok(())
     }
 
-    // The outcome of a case whose numbers are within bounds.
-    fn outcome(self) -> Outcome
-        requires { Bounds self }
-        ensures { result ≡ outcome_of self }
+    // What a case comes to.
+    #[tactic(auto, using(benefits::proofs::Counts::charge_ups_most, factors::proofs::Factors::reduced_ups), unfolding(crate::specs::State::outcome_of, crate::specs::State::gross_of))]
+    fn outcome(&self) -> Result<Amounts, RefusalAt>
+        ensures { outcome_numbers result ≡ outcome_of self.now }
     {
-        let refusal = self.open_refusal();
-        if refusal != 0 {
-            return Outcome::Refused(Refusal {
-                number: refusal,
-                line: 0,
-            });
-        }
+        self.check_open()
+            .map_err(|refusal| RefusalAt { refusal, line: 0 })?;
         let section = self.member.section;
         let earned = self.section.earned(section, self.years.pension());
         let gross = self.factors.reduced(earned);
@@ -45,9 +44,9 @@ impl Case {
     }
 
     // The amounts that the frames come to, or the refusal of the closing.
-    pub fn close(self) -> Outcome
+    pub fn close(self) -> Result<Amounts, RefusalAt>
         requires { IsCase self }
-        ensures { (frames : List Decoded) → self ≡ after_all frames → ClosedAfter frames result }
+        ensures { (frames : List Decoded) → self ≡ after_all frames → ClosedAfter frames (outcome_numbers result) }
     {
         self.outcome()
     }

@@ -1,18 +1,16 @@
 -- Scheme Pays debits, as a case holds them: the refusal of an 06, what it makes of them, and the net amounts.
-use Rattle.std.specs.Prelude.{ℕ, ◌+◌, ◌*◌, ◌-◌, ◌≤◌, Bool, ◌&&◌, cond, leb, eqb}
+use Rattle.std.specs.Prelude.{ℕ, ◌+◌, ◌*◌, ◌-◌, ◌≤◌, Bool, true, ◌&&◌, cond, leb, ltb, eqb, Option, Some, None}
 use Rattle.measures.specs.Refusals.{unless, first_refusal}
-use Rattle.measures.specs.Tries.{tried}
 use Rattle.measures.specs.Rounding.{upward}
 use Rattle.measures.specs.declared.Counted.{Counted}
 use Rattle.benefits.specs.Limits.{highest_pot}
 use Rattle.benefits.specs.Steps.{pension_debit, pension_debit_way, lump_debit}
 use Rattle.frames.specs.declared.Debit.{Debit}
 use Rattle.frames.specs.Limits.{is_section, debit_refusal}
-use Rattle.rules.specs.declared.Outcome.{Outcome}
+use Rattle.rules.specs.Outcomes.{Outcome}
 use Rattle.rules.specs.Working.{worked_unless}
 use Rattle.rules.specs.declared.SchemeAmounts.{SchemeAmounts}
 use Rattle.debits.specs.declared.DebitsState.{DebitsState}
-use Rattle.debits.specs.declared.DebitsTaken.{DebitsTaken}
 
 -- no debit
 abbrev pub no_debit : Counted
@@ -20,13 +18,18 @@ no_debit = record { amount = record { 0 = 0 }; ups = 0 }
 
 -- no 06 yet
 abbrev pub no_debits : DebitsState
-no_debits = record { next = 0; pension2015 = no_debit; pension1995 = no_debit }
+no_debits = record { previous = None; pension2015 = no_debit; pension1995 = no_debit }
 
 -- ---- by an 06
 
+-- whether a scheme is above that of the previous 06
+abbrev pub above_previous : Option ℕ → ℕ → Bool
+above_previous None scheme = true
+above_previous (Some previous) scheme = ltb previous scheme
+
 -- an 06: 11
 unfoldable pub debit_fields : ℕ → DebitsState → Debit → ℕ
-debit_fields section s d = first_refusal (debit_refusal d section) (unless (leb s.next d.scheme) 11)
+debit_fields section s d = first_refusal (debit_refusal d section) (unless (above_previous s.previous d.scheme) 11)
 
 -- the debit where it is of that scheme, else the debit before
 unfoldable pub debit_by : Counted → ℕ → Debit → Counted
@@ -36,11 +39,7 @@ debit_by before scheme d =
 
 -- the debit of its scheme; the next 06 is of a higher one
 unfoldable pub with_debit : DebitsState → Debit → DebitsState
-with_debit s d = record { next = d.scheme + 1; pension2015 = debit_by s.pension2015 0 d; pension1995 = debit_by s.pension1995 1 d }
-
--- an 06 taken: refused, the debits as they were
-unfoldable pub debit_taken : ℕ → DebitsState → Debit → DebitsTaken
-debit_taken section s d = record { debits = tried (debit_fields section) with_debit s d; refusal = debit_fields section s d }
+with_debit s d = record { previous = Some d.scheme; pension2015 = debit_by s.pension2015 0 d; pension1995 = debit_by s.pension1995 1 d }
 
 -- ---- closing
 

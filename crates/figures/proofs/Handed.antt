@@ -12,7 +12,7 @@ use Rattle.measures.proofs.Tests.{le_or_lt}
 use Rattle.posts.specs.declared.YearPosts.{YearPosts}
 use Rattle.posts.specs.declared.Changed.{Changed}
 use Rattle.posts.specs.Changes.{Change, joins, leaves}
-use Rattle.posts.specs.Year.{no_posts, Held}
+use Rattle.posts.specs.Year.{no_posts}
 use Rattle.posts.specs.Reached.{ChangedBy, Reached, start, next}
 use Rattle.input.specs.Script.{EndAt, PutIn, numbers_of, from_mark}
 use Rattle.input.proofs.Words.{from_mark_lem}
@@ -23,28 +23,28 @@ use Rattle.figures.specs.Changed.{after_command, after_line, HandedOn}
 
 module _ {year : YearPosts} (command : ℕ) (numbers : List ℕ) where
   -- `Y`
-  pub year_begun : command ≡ 89 → {r : YearPosts} → r ≡ no_posts → Held r → HandedOn year (after_command command numbers) r
+  pub year_begun : command ≡ 89 → {r : YearPosts} → r ≡ no_posts → HandedOn year (after_command command numbers) r
   unfolding after_command
-  year_begun c {r = r} e held =
-      record { held = held; after = λ changes t. subst (λ (k : ℕ). Reached (after_command k numbers changes) r) (sym c) (subst (Reached []) (sym e) start) }
+  year_begun c {r = r} e =
+      record { after = λ changes t. subst (λ (k : ℕ). Reached (after_command k numbers changes) r) (sym c) (subst (Reached []) (sym e) start) }
 
   -- `J`
   pub post_joined : command ≡ 74 → {r : Changed} → ChangedBy year (joins (post_from numbers 0)) r → HandedOn year (after_command command numbers) r.year
   unfolding after_command
   post_joined c {r = r} e =
-      record { held = e.held; after = λ changes t. subst (λ (k : ℕ). Reached (after_command k numbers changes) r.year) (sym c) (next t e) }
+      record { after = λ changes t. subst (λ (k : ℕ). Reached (after_command k numbers changes) r.year) (sym c) (next t e) }
 
   -- `L`
   pub post_left : command ≡ 76 → {r : Changed} → ChangedBy year (leaves (get_or numbers 0 0)) r → HandedOn year (after_command command numbers) r.year
   unfolding after_command
   post_left c {r = r} e =
-      record { held = e.held; after = λ changes t. subst (λ (k : ℕ). Reached (after_command k numbers changes) r.year) (sym c) (next t e) }
+      record { after = λ changes t. subst (λ (k : ℕ). Reached (after_command k numbers changes) r.year) (sym c) (next t e) }
 
   -- another
-  pub year_stays : (command ≡ 89 → ⊥) → (command ≡ 74 → ⊥) → (command ≡ 76 → ⊥) → Held year → HandedOn year (after_command command numbers) year
+  pub year_stays : (command ≡ 89 → ⊥) → (command ≡ 74 → ⊥) → (command ≡ 76 → ⊥) → HandedOn year (after_command command numbers) year
   unfolding after_command
-  year_stays y j l held =
-      record { held = held; after = λ changes t. rw (ne_eqb command 89 y, ne_eqb command 74 j, ne_eqb command 76 l) t }
+  year_stays y j l =
+      record { after = λ changes t. rw (ne_eqb command 89 y, ne_eqb command 74 j, ne_eqb command 76 l) t }
 
 -- ---- the numbers of words, put in places that hold noughts
 
@@ -85,7 +85,6 @@ module _ {room : ℕ} {list after : List ℕ} {n : ℕ} (p : PutIn list (noughts
   unfolding after_command
   numbers_given command four h =
       record {
-        held = h.held;
         after =
             λ changes t. rw (← number_at 0 (omega arith), ← number_at 1 (omega arith), ← number_at 2 (omega arith), ← number_at 3 (omega arith)) (h.after changes t);
       }
@@ -93,11 +92,11 @@ module _ {room : ℕ} {list after : List ℕ} {n : ℕ} (p : PutIn list (noughts
 -- ---- a line
 
 -- one of fewer than two bytes
-pub line_short : {year : YearPosts} (text : List ℕ) → length text < 2 → Held year → HandedOn year (after_line text) year
+pub line_short : {year : YearPosts} (text : List ℕ) → length text < 2 → HandedOn year (after_line text) year
 unfolding after_line
-line_short [] l held = record { held = held; after = λ changes t. t }
-line_short (x ∷ []) l held = record { held = held; after = λ changes t. t }
-line_short (x ∷ y ∷ more) l held = absurd (omega arith)
+line_short [] l = record { after = λ changes t. t }
+line_short (x ∷ []) l = record { after = λ changes t. t }
+line_short (x ∷ y ∷ more) l = absurd (omega arith)
 
 by_command : (text : List ℕ) (changes : List Change) → 1 < length text → after_line text changes ≡ after_command (get_or text 0 0) (numbers_of (from_mark 124 (drop 2 text))) changes
 unfolding after_line
@@ -106,10 +105,10 @@ by_command (x ∷ []) changes l = absurd (omega arith)
 by_command (x ∷ y ∷ more) changes l = refl
 
 -- any other goes by its first byte
-pub line_done : {year r : YearPosts} (text : List ℕ) → 1 < length text → (bar : ℕ) → EndAt text 2 124 bar
-    → HandedOn year (after_command (get_or text 0 0) (numbers_of (take (length text - bar) (drop bar text)))) r
+pub line_done : {year r : YearPosts} (text : List ℕ) → 1 < length text → {rest : List ℕ} → rest ≡ drop 2 text → (bar : ℕ) → EndAt rest 0 124 bar
+    → HandedOn year (after_command (get_or text 0 0) (numbers_of (take (length rest - bar) (drop bar rest)))) r
     → HandedOn year (after_line text) r
-line_done text l bar e h =
-    let rest : take (length text - bar) (drop bar text) ≡ from_mark 124 (drop 2 text) =
-    take_all (length text - bar) (drop bar text) (simp length-drop (omega arith)) ∙ from_mark_lem 124 text 2 bar e in
-    record { held = h.held; after = λ changes t. rw (by_command text changes l, ← rest) (h.after changes t) }
+line_done text l {rest} same bar e h =
+    let marked : take (length rest - bar) (drop bar rest) ≡ from_mark 124 (drop 2 text) =
+    take_all (length rest - bar) (drop bar rest) (simp length-drop (omega arith)) ∙ from_mark_lem 124 rest 0 bar e ∙ ap (from_mark 124) same in
+    record { after = λ changes t. rw (by_command text changes l, ← marked) (h.after changes t) }

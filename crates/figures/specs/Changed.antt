@@ -2,7 +2,6 @@
 use Rattle.std.specs.Prelude.{ℕ, cond, List, [], ◌∷◌, ◌++◌, eqb, get_or}
 use Rattle.posts.specs.declared.YearPosts.{YearPosts}
 use Rattle.posts.specs.Changes.{Change, joins, leaves}
-use Rattle.posts.specs.Year.{Held}
 use Rattle.posts.specs.Reached.{Reached}
 use Rattle.input.specs.Script.{numbers_of, from_mark}
 use Rattle.figures.specs.Posts.{post_from}
@@ -24,5 +23,4 @@ after_line (command ∷ x ∷ label) changes = after_command command (numbers_of
 
 -- a year handed on: by whatever changes it was reached, what comes back is reached by the changes that come of them
 pub record HandedOn (year : YearPosts) (next : List Change → List Change) (r : YearPosts) : Type 0 where
-  pub held : Held r
   pub after : (changes : List Change) → Reached changes year → Reached (next changes) r

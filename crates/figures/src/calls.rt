@@ -4,7 +4,7 @@ ghost use Rattle.std.specs.Prelude.{◌+◌, ◌<◌, ◌≡◌, get_or};
 use super::lines;
 use benefits::{FinalPay, abatement_call, charge_call};
 use bills::{Change, change_call};
-use calendar::{Date, dates_call, refusal_number, signed};
+use calendar::{Date, dates_call, signed};
 use measures::Pence;
 
 // The date whose year, month and day are the numbers from a place on.
@@ -24,15 +24,7 @@ fn date(n: &[u64; 15], at: usize) -> Date
 // The dates call.
 pub fn dates(rt: &impl Print, label: &[u8], n: &[u64; 15]) {
     let answer = dates_call(date(n, 0), date(n, 3), n[6]);
-    lines::months(rt, label, refusal_number(answer), signed(answer));
-}
-
-// The amount of the number at a place.
-fn pence(n: &[u64; 15], at: usize) -> Pence
-    requires { at < 15 }
-    ensures { result.0 ≡ get_or n.now at 0 }
-{
-    Pence(n[at])
+    lines::months(rt, label, answer.err(), signed(answer));
 }
 
 // The final pay frame of the first ten numbers.
@@ -49,10 +41,10 @@ fn final_pay(n: &[u64; 15]) -> FinalPay
     ensures factor_value { result.factor ≡ get_or n.now 9 0 }
 {
     FinalPay {
-        pay4: pence(n, 0),
-        pay3: pence(n, 1),
-        pay2: pence(n, 2),
-        pay1: pence(n, 3),
+        pay4: Pence(n[0]),
+        pay3: Pence(n[1]),
+        pay2: Pence(n[2]),
+        pay1: Pence(n[3]),
         allowance3: n[4],
         allowance2: n[5],
         allowance1: n[6],
@@ -71,9 +63,9 @@ fn change(n: &[u64; 15]) -> Change
     ensures price_increase_value { result.price_increase ≡ get_or n.now 14 0 }
 {
     Change {
-        old_pay: pence(n, 10),
+        old_pay: Pence(n[10]),
         old_days: n[11],
-        new_pay: pence(n, 12),
+        new_pay: Pence(n[12]),
         new_days: n[13],
         price_increase: n[14],
     }
@@ -91,6 +83,6 @@ pub fn employers(rt: &impl Print, label: &[u8], n: &[u64; 15]) {
 
 // The abatement call.
 pub fn abatement(rt: &impl Print, label: &[u8], n: &[u64; 15]) {
-    let answer = abatement_call(pence(n, 0), pence(n, 1), pence(n, 2), pence(n, 3));
+    let answer = abatement_call(Pence(n[0]), Pence(n[1]), Pence(n[2]), Pence(n[3]));
     lines::answer(rt, label, answer);
 }

@@ -1,96 +1,62 @@
 // The lines that the program writes, without their ends.
-ghost use Rattle.std.specs.Prelude.{◌≤◌, ◌≡◌, length, nat_abs};
+use measures::{Pence, Refusal, TwoAmounts, Way, number_beside};
 
-use measures::{Answer, AnswerOfTwo, Pence, Way};
-
-// Writes a text and a number.
-pub fn number(rt: &impl Print, text: &[u8], n: u64) {
-    let _ = rt.write_all(text);
-    let _ = rt.print(n);
-}
-
-// Writes a label and a refusal.
-fn start(rt: &impl Print, label: &[u8], refusal: u64) {
+// Writes a label and the number of a refusal, 0 for none.
+fn start(rt: &impl Print, label: &[u8], refusal: Option<Refusal>) {
+    let number = number_beside(refusal);
     let _ = rt.write_all(label);
-    number(rt, b": refusal ", refusal);
+    let _ = print!(rt; ": refusal {number}");
 }
 
 // Writes a label, a refusal and an amount.
-fn pence(rt: &impl Print, label: &[u8], refusal: u64, amount: Pence) {
+fn pence(rt: &impl Print, label: &[u8], refusal: Option<Refusal>, amount: Pence) {
     start(rt, label, refusal);
-    number(rt, b", ", amount.0);
-    let _ = rt.write_all(b" pence");
+    let _ = print!(rt; ", {} pence", amount.0);
 }
 
 // Writes a label and an answer, its amount 0 when refused.
-pub fn answer(rt: &impl Print, label: &[u8], given: Answer) {
-    match given {
-        Answer::Amount(amount) => pence(rt, label, 0, amount),
-        Answer::Refused(refusal) => pence(rt, label, refusal, Pence(0)),
-    }
+pub fn answer(rt: &impl Print, label: &[u8], given: Result<Pence, Refusal>) {
+    pence(rt, label, given.err(), given.unwrap_or(Pence(0)));
 }
 
 // Writes a label, a refusal, an amount and which way it was rounded.
-pub fn rounded_pence(rt: &impl Print, label: &[u8], refusal: u64, amount: Pence, way: Way) {
+pub fn rounded_pence(
+    rt: &impl Print,
+    label: &[u8],
+    refusal: Option<Refusal>,
+    amount: Pence,
+    way: Way,
+) {
+    let went = match way {
+        Way::Exact => "exact",
+        Way::Down => "down",
+        Way::Up => "up",
+    };
     pence(rt, label, refusal, amount);
-    match way {
-        Way::Exact => {
-            let _ = rt.write_all(b", exact");
-        }
-        Way::Down => {
-            let _ = rt.write_all(b", down");
-        }
-        Way::Up => {
-            let _ = rt.write_all(b", up");
-        }
-    }
+    let _ = print!(rt; ", {went}");
 }
 
-// Writes a text and the first n numbers of a list.
-pub fn list(rt: &impl Print, text: &[u8], numbers: &[u64], n: usize)
-    requires { n ≤ length numbers.now }
-{
-    let _ = rt.write_all(text);
-    let mut i: usize = 0;
-    while i < n {
-        number(rt, b" ", numbers[i]);
-        i += 1;
+// Writes a text and the numbers of a list.
+pub fn list(rt: &impl Print, text: &str, numbers: &[u64]) {
+    let _ = print!(rt; "; {text}");
+    for number in numbers {
+        let _ = print!(rt; " {number}");
     }
-}
-
-// Writes a label, a refusal and two amounts.
-fn two_pence(rt: &impl Print, label: &[u8], refusal: u64, one: Pence, other: Pence) {
-    start(rt, label, refusal);
-    number(rt, b", ", one.0);
-    number(rt, b" and ", other.0);
-    let _ = rt.write_all(b" pence");
 }
 
 // Writes a label and an answer of two amounts, both 0 when refused.
-pub fn answer_of_two(rt: &impl Print, label: &[u8], given: AnswerOfTwo) {
-    match given {
-        AnswerOfTwo::Amounts(amounts) => two_pence(rt, label, 0, amounts.one, amounts.other),
-        AnswerOfTwo::Refused(refusal) => two_pence(rt, label, refusal, Pence(0), Pence(0)),
-    }
+pub fn answer_of_two(rt: &impl Print, label: &[u8], given: Result<TwoAmounts, Refusal>) {
+    let none = TwoAmounts {
+        one: Pence(0),
+        other: Pence(0),
+    };
+    let amounts = given.unwrap_or(none);
+    start(rt, label, given.err());
+    let _ = print!(rt; ", {} and {} pence", amounts.one.0, amounts.other.0);
 }
 
-// A number without its sign.
-fn magnitude(n: i64) -> u64
-    ensures { result ≡ nat_abs n }
-{
-    if n < 0 {
-        return (-1 - n) as u64 + 1;
-    }
-    n as u64
-}
-
-// Writes a label, a refusal and a number of months, with its sign where it is below 0.
-pub fn months(rt: &impl Print, label: &[u8], refusal: u64, n: i64) {
+// Writes a label, a refusal and a number of months, below 0 for months late.
+pub fn months(rt: &impl Print, label: &[u8], refusal: Option<Refusal>, n: i64) {
     start(rt, label, refusal);
-    if n < 0 {
-        number(rt, b", -", magnitude(n));
-    } else {
-        number(rt, b", ", magnitude(n));
-    }
-    let _ = rt.write_all(b" months");
+    let _ = print!(rt; ", {n} months");
 }

@@ -20,8 +20,6 @@ mod changes;
 mod lines;
 mod years;
 
-ghost use Rattle.std.specs.Prelude.{◌≤◌, length};
-ghost use Rattle.posts.specs.Year.{Held};
 ghost use Rattle.input.specs.Script.{numbers_of};
 ghost use Rattle.figures.specs.Changed.{after_command, after_line, HandedOn};
 
@@ -31,7 +29,8 @@ use input::{end_at, numbers_in, read_input};
 use posts::YearPosts;
 use years::{on_hexadecimal, on_posts, on_records};
 
-// Makes the call of a command on words, of which these are the numbers.
+// Makes the call of a command on words, of which these are the numbers. A command stays a byte: each letter stands in one arm, here or in
+// `changed`, and an enum would only name it twice more.
 fn call(rt: &impl Print, command: u8, label: &[u8], words: &[u8], n: &[u64; 15]) {
     match command {
         b'P' => on_posts(rt, label, words),
@@ -47,7 +46,6 @@ fn call(rt: &impl Print, command: u8, label: &[u8], words: &[u8], n: &[u64; 15])
 
 // Does a command on words, each after one byte that parts it from what stands before, and gives the year after it.
 fn done(rt: &impl Print, year: YearPosts, command: u8, label: &[u8], words: &[u8]) -> YearPosts
-    requires { Held year }
     ensures { HandedOn year (after_command command (numbers_of words.now)) result }
 {
     let mut n = [0u64; 15];
@@ -58,33 +56,26 @@ fn done(rt: &impl Print, year: YearPosts, command: u8, label: &[u8], words: &[u8
 
 // Does a line, and gives the year after it.
 fn line(rt: &impl Print, year: YearPosts, text: &[u8]) -> YearPosts
-    requires { Held year }
     ensures { HandedOn year (after_line text.now) result }
 {
-    if text.len() < 2 {
+    let [command, _, rest @ ..] = text else {
         return year;
-    }
-    let bar = end_at(text, 2, b'|');
-    done(rt, year, text[0], &text[2..bar], &text[bar..])
+    };
+    let bar = end_at(rest, 0, b'|');
+    done(rt, year, *command, &rest[..bar], &rest[bar..])
 }
 
-// Does the lines of a script in turn.
-fn run(rt: &impl Print, script: &[u8])
-    requires { length script.now ≤ 131072 }
-{
-    let mut year = YearPosts::none();
-    let mut at: usize = 0;
-    while at < script.len() {
-        let end = end_at(script, at, b'\n');
-        year = line(rt, year, &script[at..end]);
-        let _ = rt.write_all(b"\n");
-        at = end + 1;
-    }
-}
-
+// Does the lines of the script on standard input in turn.
 fn main(rt: HostRuntime) {
     let mut buffer = [0u8; 131072];
     let given = read_input(&mut rt.stdin(), &mut buffer);
-    let n = given.count;
-    run(&rt, &buffer[..n]);
+    let mut year = YearPosts::none();
+    for ended in buffer[..given.count].split_inclusive(|x| *x == b'\n') {
+        let text = match ended {
+            [text @ .., b'\n'] => text,
+            text => text,
+        };
+        year = line(&rt, year, text);
+        let _ = rt.write_all(b"\n");
+    }
 }

@@ -7,6 +7,7 @@ use input::{bytes_in, end_at, numbers_in, spelled};
 use measures::{Minutes, Pence};
 use posts::{BYTES_OF_POST, Post, TOO_MANY_POSTS, posts_call};
 use records::records_front_call;
+use std::array;
 
 // The post whose h, w, p and s are the numbers from a place on.
 pub fn post(n: &[u64], at: usize) -> Post
@@ -25,14 +26,7 @@ pub fn post(n: &[u64], at: usize) -> Post
 fn posts_in(numbers: [u64; 69]) -> [Post; TOO_MANY_POSTS]
     ensures { result ≡ posts_of_numbers (drop 1 numbers) }
 {
-    let first = post(&numbers, 1);
-    let mut list = [first; TOO_MANY_POSTS];
-    let mut i: usize = 0;
-    while i < TOO_MANY_POSTS {
-        list[i] = post(&numbers, 4 * i + 1);
-        i += 1;
-    }
-    list
+    array::from_fn(|i| post(&numbers, 4 * i + 1))
 }
 
 // The number of places that are lent where a line asks for n: 18 at most.
@@ -42,22 +36,16 @@ fn lent_places(n: u64) -> usize
     (n % 19) as usize
 }
 
-// Writes the numbers in the lent places, the first of a list.
-fn places(rt: &impl Print, list: &[u64; 18], lent: usize)
-    requires { lent ≤ 18 }
-{
-    lines::list(rt, b"; places", list, lent);
-}
-
 // The posts call on bytes with n places lent.
 fn on_bytes(rt: &impl Print, label: &[u8], bytes: &[u8], n: u64) {
-    let mut list = [9u64; 18];
-    let lent = lent_places(n);
-    lines::answer(rt, label, posts_call(bytes, &mut list[..lent]));
-    places(rt, &list, lent);
+    let mut places = [9u64; 18];
+    let lent = &mut places[..lent_places(n)];
+    lines::answer(rt, label, posts_call(bytes, lent));
+    lines::list(rt, "places", lent);
 }
 
-// The posts call on posts of four numbers each, after the number of places lent.
+// The posts call on posts of four numbers each, after the number of places lent. The numbers have a place each and their count beside
+// them: the memory of a program is fixed.
 pub fn on_posts(rt: &impl Print, label: &[u8], words: &[u8]) {
     let mut numbers = [0u64; 69];
     let count = numbers_in(words, &mut numbers);
@@ -70,14 +58,11 @@ pub fn on_posts(rt: &impl Print, label: &[u8], words: &[u8]) {
 pub fn on_records(rt: &impl Print, label: &[u8], words: &[u8]) {
     let mut numbers = [0u64; 69];
     let count = numbers_in(words, &mut numbers);
-    let mut list = [9u64; 18];
-    let lent = lent_places(numbers[0]);
-    lines::answer(
-        rt,
-        label,
-        records_front_call(posts_in(numbers), count / 4, &mut list[..lent]),
-    );
-    places(rt, &list, 18);
+    let mut places = [9u64; 18];
+    let lent = &mut places[..lent_places(numbers[0])];
+    let answer = records_front_call(posts_in(numbers), count / 4, lent);
+    lines::answer(rt, label, answer);
+    lines::list(rt, "places", &places);
     let _ = rt.write_all(b"\n");
     on_posts(rt, label, words);
 }
@@ -85,11 +70,10 @@ pub fn on_records(rt: &impl Print, label: &[u8], words: &[u8]) {
 // The posts call on the bytes that the second word spells.
 pub fn on_hexadecimal(rt: &impl Print, label: &[u8], words: &[u8], lent: u64) {
     let space = end_at(words, 0, b' ');
-    if space == words.len() {
+    let [_, digits @ ..] = &words[space..] else {
         return;
-    }
-    let start = space + 1;
+    };
     let mut bytes = [0u8; 4096];
-    let n = bytes_in(&words[start..], &mut bytes);
+    let n = bytes_in(digits, &mut bytes);
     on_bytes(rt, label, &bytes[..n], lent);
 }

@@ -8,8 +8,8 @@ use Rattle.calendar.specs.Dates.{is_leap, month_length, date_stands, is_before, 
 use Rattle.posts.specs.Posts.{post_of}
 use Rattle.posts.specs.Call.{post_at}
 use Rattle.frames.specs.declared.Frame.{Frame}
-use Rattle.frames.specs.declared.Decoded.{Decoded}
-use Rattle.frames.specs.Frames.{date_at, member_in, frame_length, frame_of, decoded}
+use Rattle.std.specs.Prelude.{Ok, Err}
+use Rattle.frames.specs.Frames.{date_at, member_in, frame_length, frame_of, Decoded, decoded}
 use Rattle.frames.specs.Limits.{member_refusal}
 
 -- born on 1 April 1970, out at 67: the refusal by section, pension age and the section's pension age
@@ -44,7 +44,7 @@ other_lengths =
     ∷ decoded (1 ∷ 7 ∷ 178 ∷ 4 ∷ 1 ∷ 7 ∷ 245 ∷ 4 ∷ 1 ∷ 0 ∷ 67 ∷ 0 ∷ 0 ∷ [])
     ∷ []
 
-pub lengths_shown : other_lengths ≡ Decoded.Refused 3 ∷ Decoded.Refused 3 ∷ []
+pub lengths_shown : other_lengths ≡ Err 3 ∷ Err 3 ∷ []
 unfolding one_at frame_length frame_of decoded
 lengths_shown = refl
 
@@ -57,6 +57,6 @@ posts =
     ∷ decoded (3 ∷ 5 ∷ 220 ∷ 8 ∷ 202 ∷ 0 ∷ 39 ∷ 172 ∷ 64 ∷ 0 ∷ 3 ∷ 13 ∷ 64 ∷ [])
     ∷ []
 
-pub post_lengths_shown : posts ≡ Decoded.Refused 3 ∷ Decoded.Refused 3 ∷ Decoded.Refused 3 ∷ Decoded.Frame (Frame.Post (post_of 1500 2250 2600000 200000)) ∷ []
+pub post_lengths_shown : posts ≡ Err 3 ∷ Err 3 ∷ Err 3 ∷ Ok (Frame.Post (post_of 1500 2250 2600000 200000)) ∷ []
 unfolding one_at two_at four_at post_at frame_length frame_of decoded
 post_lengths_shown = refl

@@ -1,5 +1,6 @@
--- Document 01, "Frames", with the frame of request 2.4, the last byte of 2.5 and the supplement of 2.7: the frame that bytes are. "fields are unsigned, big-endian, widths in bytes"
-use Rattle.std.specs.Prelude.{ℕ, ◌+◌, ◌*◌, cond, List, eqb, length}
+-- Document 01, "Frames", with the frame of request 2.4, the last byte of 2.5 and the supplement of 2.7: the frame that bytes are.
+-- "fields are unsigned, big-endian, widths in bytes"
+use Rattle.std.specs.Prelude.{ℕ, ◌+◌, ◌*◌, cond, List, eqb, length, Result, Ok, Err}
 use Rattle.fields.specs.Fields.{one_at, two_at, four_at}
 use Rattle.calendar.specs.declared.Date.{Date}
 use Rattle.posts.specs.declared.Post.{Post}
@@ -12,7 +13,10 @@ use Rattle.frames.specs.declared.Year.{Year}
 use Rattle.frames.specs.declared.Factor.{Factor}
 use Rattle.frames.specs.declared.Debit.{Debit}
 use Rattle.frames.specs.declared.Frame.{Frame}
-use Rattle.frames.specs.declared.Decoded.{Decoded}
+
+-- what bytes decode to: a frame, or the number of their refusal
+abbrev pub Decoded : Type 0
+Decoded = Result Frame ℕ
 
 -- "The first byte is the kind": 0, which is no kind, where there is no byte
 abbrev pub kind_of : List ℕ → ℕ
@@ -22,8 +26,8 @@ kind_of bytes = one_at bytes 0
 unfoldable pub date_at : List ℕ → ℕ → Date
 date_at bytes at = record { year = two_at bytes at; month = one_at bytes (at + 2); day = one_at bytes (at + 3) }
 
--- "01 member: birth and retirement (year 2, month 1, day 1 each), section 1 (0 none, 1 the 1995), pension age 1."; "Section 2 joins the member frame.";
--- "The member frame gains a last byte, the section's pension age"
+-- "01 member: birth and retirement (year 2, month 1, day 1 each), section 1 (0 none, 1 the 1995), pension age 1.";
+-- "Section 2 joins the member frame."; "The member frame gains a last byte, the section's pension age"
 unfoldable pub member_in : List ℕ → Member
 member_in bytes =
     record {
@@ -59,7 +63,8 @@ final_pay_in bytes =
       factor = two_at bytes 26;
     }
 
--- "05 factor: scheme 1 (0 the 2015, 1 the 1995), months 2, pension factor 2, lump factor 2, both in thousandths."; of a member of section 2 "Scheme 1 [..] means this section"
+-- "05 factor: scheme 1 (0 the 2015, 1 the 1995), months 2, pension factor 2, lump factor 2, both in thousandths.";
+-- of a member of section 2 "Scheme 1 [..] means this section"
 unfoldable pub factor_in : List ℕ → Factor
 factor_in bytes =
     record { scheme = one_at bytes 1; months = record { 0 = two_at bytes 2 }; pension = two_at bytes 4; lump = two_at bytes 6 }
@@ -104,20 +109,15 @@ longest_frame = 43
 -- "A frame is one of six kinds and carries its own fields", with 08 of seven; "3, unknown kind"
 unfoldable pub frame_of : ℕ → List ℕ → Decoded
 frame_of kind bytes =
-    cond (eqb kind 1) (Decoded.Frame (Frame.Member (member_in bytes)))
-    (cond (eqb kind 2) (Decoded.Frame (Frame.Year (year_in bytes)))
-    (cond (eqb kind 3) (Decoded.Frame (Frame.Post (post_in bytes)))
-    (cond (eqb kind 4) (Decoded.Frame (Frame.FinalPay (final_pay_in bytes)))
-    (cond (eqb kind 5) (Decoded.Frame (Frame.Factor (factor_in bytes)))
-    (cond (eqb kind 6) (Decoded.Frame (Frame.Debit (debit_in bytes)))
-    (cond (eqb kind 8) (Decoded.Frame (Frame.TenPays (ten_pays_in bytes)))
-    (Decoded.Refused 3)))))))
+    cond (eqb kind 1) (Ok (Frame.Member (member_in bytes)))
+    (cond (eqb kind 2) (Ok (Frame.Year (year_in bytes)))
+    (cond (eqb kind 3) (Ok (Frame.Post (post_in bytes)))
+    (cond (eqb kind 4) (Ok (Frame.FinalPay (final_pay_in bytes)))
+    (cond (eqb kind 5) (Ok (Frame.Factor (factor_in bytes)))
+    (cond (eqb kind 6) (Ok (Frame.Debit (debit_in bytes)))
+    (cond (eqb kind 8) (Ok (Frame.TenPays (ten_pays_in bytes)))
+    (Err 3)))))))
 
 -- "3, unknown kind or wrong length"
 unfoldable pub decoded : List ℕ → Decoded
-decoded bytes = cond (eqb (length bytes) (frame_length (kind_of bytes))) (frame_of (kind_of bytes) bytes) (Decoded.Refused 3)
-
--- the refusal of what bytes decode to, 0 for a frame
-unfoldable pub refusal_in : Decoded → ℕ
-refusal_in (Decoded.Frame frame) = 0
-refusal_in (Decoded.Refused number) = number
+decoded bytes = cond (eqb (length bytes) (frame_length (kind_of bytes))) (frame_of (kind_of bytes) bytes) (Err 3)

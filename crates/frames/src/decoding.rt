@@ -1,19 +1,21 @@
 // Frames from bytes: the kind, then its fields.
 ghost use Rattle.std.specs.Prelude.{◌≡◌, ◌+◌, ◌≤◌, length};
-ghost use Rattle.frames.specs.Frames.{date_at, member_in, year_in, final_pay_in, factor_in, debit_in, ten_pays_in, frame_length, frame_of, decoded, refusal_in};
+ghost use Rattle.frames.specs.Frames.{date_at, member_in, year_in, final_pay_in, factor_in, debit_in, ten_pays_in, frame_length, decoded};
+ghost use Rattle.measures.specs.Refusals.{numbered};
 
-use super::{Debit, Decoded, Factor, Frame, LONGEST_FRAME, Member, Year};
+use super::{Debit, Factor, Frame, LONGEST_FRAME, Member, Year};
 use averages::TenPays;
 use benefits::FinalPay;
 use calendar::Date;
 use fields::{four_at, one_at, two_at};
-use measures::{Months, Pence};
+use measures::{Months, Pence, Refusal};
 use posts::{BYTES_OF_POST, post_at};
 
 // The bytes of an 03: its kind and the post.
 const POST_FRAME: usize = 1 + BYTES_OF_POST;
 
 // The date whose 4 bytes begin at a place.
+#[tactic(auto, unfolding(crate::specs::Frames::date_at))]
 fn date_at(bytes: &[u8], at: usize) -> Date
     requires { at + 4 ≤ length bytes.now }
     ensures { result ≡ date_at bytes.now at }
@@ -26,15 +28,14 @@ fn date_at(bytes: &[u8], at: usize) -> Date
 }
 
 // The member in the bytes of an 01.
+#[tactic(auto, unfolding(crate::specs::Frames::frame_length, crate::specs::Frames::member_in))]
 fn member_in(bytes: &[u8]) -> Member
     requires { length bytes.now ≡ frame_length 1 }
     ensures { result ≡ member_in bytes.now }
 {
-    let birth = date_at(bytes, 1);
-    let retirement = date_at(bytes, 5);
     Member {
-        birth,
-        retirement,
+        birth: date_at(bytes, 1),
+        retirement: date_at(bytes, 5),
         section: one_at(bytes, 9),
         pension_age: one_at(bytes, 10),
         section_pension_age: one_at(bytes, 11),
@@ -42,6 +43,7 @@ fn member_in(bytes: &[u8]) -> Member
 }
 
 // The year in the bytes of an 02.
+#[tactic(auto, unfolding(crate::specs::Frames::frame_length, crate::specs::Frames::year_in))]
 fn year_in(bytes: &[u8]) -> Year
     requires { length bytes.now ≡ frame_length 2 }
     ensures { result ≡ year_in bytes.now }
@@ -53,19 +55,16 @@ fn year_in(bytes: &[u8]) -> Year
 }
 
 // The final pay in the bytes of an 04.
+#[tactic(auto, unfolding(crate::specs::Frames::frame_length, crate::specs::Frames::final_pay_in))]
 fn final_pay_in(bytes: &[u8]) -> FinalPay
     requires { length bytes.now ≡ frame_length 4 }
     ensures { result ≡ final_pay_in bytes.now }
 {
-    let pay4 = Pence(four_at(bytes, 1));
-    let pay3 = Pence(four_at(bytes, 5));
-    let pay2 = Pence(four_at(bytes, 9));
-    let pay1 = Pence(four_at(bytes, 13));
     FinalPay {
-        pay4,
-        pay3,
-        pay2,
-        pay1,
+        pay4: Pence(four_at(bytes, 1)),
+        pay3: Pence(four_at(bytes, 5)),
+        pay2: Pence(four_at(bytes, 9)),
+        pay1: Pence(four_at(bytes, 13)),
         allowance3: two_at(bytes, 17),
         allowance2: two_at(bytes, 19),
         allowance1: two_at(bytes, 21),
@@ -76,33 +75,34 @@ fn final_pay_in(bytes: &[u8]) -> FinalPay
 }
 
 // The factor in the bytes of an 05.
+#[tactic(auto, unfolding(crate::specs::Frames::frame_length, crate::specs::Frames::factor_in))]
 fn factor_in(bytes: &[u8]) -> Factor
     requires { length bytes.now ≡ frame_length 5 }
     ensures { result ≡ factor_in bytes.now }
 {
-    let months = Months(two_at(bytes, 2));
     Factor {
         scheme: one_at(bytes, 1),
-        months,
+        months: Months(two_at(bytes, 2)),
         pension: two_at(bytes, 4),
         lump: two_at(bytes, 6),
     }
 }
 
 // The debit in the bytes of an 06.
+#[tactic(auto, unfolding(crate::specs::Frames::frame_length, crate::specs::Frames::debit_in))]
 fn debit_in(bytes: &[u8]) -> Debit
     requires { length bytes.now ≡ frame_length 6 }
     ensures { result ≡ debit_in bytes.now }
 {
-    let pot = Pence(four_at(bytes, 2));
     Debit {
         scheme: one_at(bytes, 1),
-        pot,
+        pot: Pence(four_at(bytes, 2)),
         factor: two_at(bytes, 6),
     }
 }
 
 // The ten pays in the bytes of an 08.
+#[tactic(auto, unfolding(crate::specs::Frames::frame_length, crate::specs::Frames::ten_pays_in))]
 fn ten_pays_in(bytes: &[u8]) -> TenPays
     requires { length bytes.now ≡ frame_length 8 }
     ensures { result ≡ ten_pays_in bytes.now }
@@ -122,60 +122,19 @@ fn ten_pays_in(bytes: &[u8]) -> TenPays
     }
 }
 
-// The bytes of a frame of each kind, the kind's own among them; 0 for an unknown kind.
-fn frame_length(kind: u64) -> usize
-    ensures { result ≡ frame_length kind }
+// The frame that any bytes are: the first says the kind, and each kind has its length. All others are refused.
+#[tactic(auto, using(measures::proofs::Tests::tests), unfolding(crate::specs::Frames::frame_length, crate::specs::Frames::frame_of, crate::specs::Frames::decoded, fields::specs::Fields::one_at))]
+pub fn decode(bytes: &[u8]) -> Result<Frame, Refusal>
+    ensures { numbered result ≡ decoded bytes.now }
 {
-    match kind {
-        1 => 12,
-        2 => 5,
-        3 => POST_FRAME,
-        4 => 28,
-        5 => 8,
-        6 => 8,
-        8 => LONGEST_FRAME,
-        _ => 0,
-    }
-}
-
-// The frame in bytes whose length is that of their kind; 3 for an unknown kind.
-fn frame_of(kind: u64, bytes: &[u8]) -> Decoded
-    requires { length bytes.now ≡ frame_length kind }
-    ensures { result ≡ frame_of kind bytes.now }
-{
-    match kind {
-        1 => Decoded::Frame(Frame::Member(member_in(bytes))),
-        2 => Decoded::Frame(Frame::Year(year_in(bytes))),
-        3 => Decoded::Frame(Frame::Post(post_at(bytes, 1))),
-        4 => Decoded::Frame(Frame::FinalPay(final_pay_in(bytes))),
-        5 => Decoded::Frame(Frame::Factor(factor_in(bytes))),
-        6 => Decoded::Frame(Frame::Debit(debit_in(bytes))),
-        8 => Decoded::Frame(Frame::TenPays(ten_pays_in(bytes))),
-        _ => Decoded::Refused(3),
-    }
-}
-
-// The frame that any bytes are; 3 for an unknown kind or a wrong length.
-pub fn decode(bytes: &[u8]) -> Decoded
-    ensures { result ≡ decoded bytes.now }
-{
-    let length = bytes.len();
-    if length == 0 {
-        return Decoded::Refused(3);
-    }
-    let kind = one_at(bytes, 0);
-    if length != frame_length(kind) {
-        return Decoded::Refused(3);
-    }
-    frame_of(kind, bytes)
-}
-
-// The refusal of what bytes decode to, 0 for a frame.
-pub fn refusal_in(read: Decoded) -> u64
-    ensures { result ≡ refusal_in read }
-{
-    match read {
-        Decoded::Frame(_) => 0,
-        Decoded::Refused(number) => number,
+    match (bytes.first(), bytes.len()) {
+        (Some(1), 12) => Ok(Frame::Member(member_in(bytes))),
+        (Some(2), 5) => Ok(Frame::Year(year_in(bytes))),
+        (Some(3), POST_FRAME) => Ok(Frame::Post(post_at(bytes, 1))),
+        (Some(4), 28) => Ok(Frame::FinalPay(final_pay_in(bytes))),
+        (Some(5), 8) => Ok(Frame::Factor(factor_in(bytes))),
+        (Some(6), 8) => Ok(Frame::Debit(debit_in(bytes))),
+        (Some(8), LONGEST_FRAME) => Ok(Frame::TenPays(ten_pays_in(bytes))),
+        _ => Err(Refusal::Frame),
     }
 }

@@ -10,11 +10,13 @@ use posts::Post;
 mod decoding;
 mod limits;
 
-pub use decoding::{decode, refusal_in};
-pub use limits::{debit_refusal, factor_refusal, member_refusal, year_stands};
+pub use decoding::decode;
+pub use limits::{check_debit, check_factor, check_member, year_stands};
 
 // The bytes of the longest frame, the 08.
 pub const LONGEST_FRAME: usize = 43;
+
+// Sections and schemes stay the numbers that came: the checks refuse those out of range, and what they promise speaks of any.
 
 // A member: birth and retirement, the section (0 none, 1 the 1995, 2 the 2008), the member's own pension age in years, and that of the section.
 #[derive(Clone, Copy)]
@@ -60,11 +62,4 @@ pub enum Frame {
     Factor(Factor),
     Debit(Debit),
     TenPays(TenPays),
-}
-
-// What bytes decode to: a frame, or the number of their refusal.
-#[derive(Clone, Copy)]
-pub enum Decoded {
-    Frame(Frame),
-    Refused(u64),
 }

@@ -1,12 +1,16 @@
 // The refusals of a frame's fields, by the frame itself and the member's section.
+// Sections and schemes are the numbers of their frames: what is promised here is promised for any number, which an enum would not hold.
 ghost use Rattle.std.specs.Prelude.{◌≡◌};
+ghost use Rattle.measures.specs.Refusals.{refused_by};
 ghost use Rattle.frames.specs.Limits.{section_pension_age, member_refusal, year_stands, scheme_stands, has_lump_sum, factor_refusal, debit_refusal};
 
 use super::{Debit, Factor, Member, Year};
 use benefits::{HIGHEST_EARLY_FACTOR, HIGHEST_POT, HIGHEST_REVALUATION};
-use calendar::dates_refusal;
+use calendar::check_dates;
+use measures::Refusal;
 
 // The pension age of a section, 0 for none.
+#[tactic(auto, using(measures::proofs::Tests::tests))]
 fn section_pension_age(section: u64) -> u64
     ensures { result ≡ section_pension_age section }
 {
@@ -17,102 +21,67 @@ fn section_pension_age(section: u64) -> u64
     }
 }
 
-// 5 where a date, the pension age or the section of a member is out of its range; then 28 where the section's pension age is another; else 0.
-pub fn member_refusal(m: Member) -> u64
-    ensures { result ≡ member_refusal m }
+// Refuses a date, the pension age or the section of a member that is out of its range; then another pension age than the section's.
+#[tactic(auto, using(measures::proofs::Tests::tests), unfolding(crate::specs::Limits::member_refusal))]
+pub fn check_member(m: Member) -> Result<(), Refusal>
+    ensures { refused_by result ≡ member_refusal m }
 {
-    let refusal = dates_refusal(m.birth, m.retirement, m.pension_age);
-    if refusal != 0 {
-        return refusal;
-    }
+    check_dates(m.birth, m.retirement, m.pension_age)?;
     if 2 < m.section {
-        return 5;
+        return Err(Refusal::Dates);
     }
     if m.section_pension_age != section_pension_age(m.section) {
-        return 28;
+        return Err(Refusal::SectionAge);
     }
-    0
+    Ok(())
 }
 
 // Whether the fields of a year stand by themselves (6 otherwise).
+#[tactic(auto, using(measures::proofs::Tests::tests), unfolding(crate::specs::Limits::year_stands))]
 pub fn year_stands(y: Year) -> bool
     ensures { result ≡ year_stands y }
 {
-    if y.april < 2015 {
-        return false;
-    }
-    if 2100 < y.april {
-        return false;
-    }
-    if HIGHEST_REVALUATION < y.revaluation {
-        return false;
-    }
-    true
+    2015 <= y.april && y.april <= 2100 && y.revaluation <= HIGHEST_REVALUATION
 }
 
 // Whether a scheme is the 2015, or 1 for a member with a section.
+#[tactic(auto, using(measures::proofs::Tests::tests), unfolding(crate::specs::Limits::scheme_stands))]
 fn scheme_stands(scheme: u64, section: u64) -> bool
     ensures { result ≡ scheme_stands scheme section }
 {
-    if scheme == 0 {
-        return true;
-    }
-    if scheme != 1 {
-        return false;
-    }
-    section != 0
+    scheme == 0 || scheme == 1 && section != 0
 }
 
 // Whether a lump sum goes with a scheme: with scheme 1 in the 1995 Section.
+#[tactic(auto, using(measures::proofs::Tests::tests), unfolding(crate::specs::Limits::has_lump_sum))]
 fn has_lump_sum(scheme: u64, section: u64) -> bool
     ensures { result ≡ has_lump_sum scheme section }
 {
-    if scheme != 1 {
-        return false;
-    }
-    section == 1
+    scheme == 1 && section == 1
 }
 
-// 10 where a field of a factor frame is out of its range; else 0.
-pub fn factor_refusal(f: Factor, section: u64) -> u64
-    ensures { result ≡ factor_refusal f section }
+// Refuses a factor frame with a field out of its range.
+#[tactic(auto, using(measures::proofs::Tests::tests), unfolding(crate::specs::Limits::factor_refusal))]
+pub fn check_factor(f: Factor, section: u64) -> Result<(), Refusal>
+    ensures { refused_by result ≡ factor_refusal f section }
 {
-    if !scheme_stands(f.scheme, section) {
-        return 10;
-    }
-    if f.months.0 < 1 {
-        return 10;
-    }
-    if 600 < f.months.0 {
-        return 10;
-    }
-    if HIGHEST_EARLY_FACTOR < f.pension {
-        return 10;
-    }
-    if HIGHEST_EARLY_FACTOR < f.lump {
-        return 10;
-    }
-    if has_lump_sum(f.scheme, section) {
-        return 0;
-    }
-    if f.lump != 0 {
-        return 10;
-    }
-    0
+    let stands = scheme_stands(f.scheme, section)
+        && 1 <= f.months.0
+        && f.months.0 <= 600
+        && f.pension <= HIGHEST_EARLY_FACTOR
+        && f.lump <= HIGHEST_EARLY_FACTOR
+        && (f.lump == 0 || has_lump_sum(f.scheme, section));
+    if stands { Ok(()) } else { Err(Refusal::Factor) }
 }
 
-// 11 where a field of a debit frame is out of its range; else 0.
-pub fn debit_refusal(d: Debit, section: u64) -> u64
-    ensures { result ≡ debit_refusal d section }
+// Refuses a debit frame with a field out of its range.
+#[tactic(auto, using(measures::proofs::Tests::tests), unfolding(crate::specs::Limits::debit_refusal))]
+pub fn check_debit(d: Debit, section: u64) -> Result<(), Refusal>
+    ensures { refused_by result ≡ debit_refusal d section }
 {
-    if !scheme_stands(d.scheme, section) {
-        return 11;
+    if scheme_stands(d.scheme, section) && d.pot.0 <= HIGHEST_POT && 1 <= d.factor {
+        Ok(())
+    } else {
+        Err(Refusal::Debit)
     }
-    if HIGHEST_POT < d.pot.0 {
-        return 11;
-    }
-    if d.factor < 1 {
-        return 11;
-    }
-    0
 }

@@ -21,6 +21,7 @@ pub struct Halves {
 }
 
 // A product, in two halves.
+#[tactic(auto, using(measures::proofs::Products::product))]
 pub fn product(a: u64, b: u64) -> Halves
     requires { (a ≤ 2 ^ 47) × (b ≤ 2 ^ 32) }
     ensures { Carried result × (value_of result ≡ a * b) }
@@ -35,33 +36,33 @@ pub fn product(a: u64, b: u64) -> Halves
 
 // Whether x is below y: the upper halves decide, and where they are equal the lower ones. Which is below no processor could foresee, so
 // the two numbers are chosen first and compared once.
+#[tactic(auto, using(crate::proofs::Laws::upper_decides, crate::proofs::Laws::lower_decides))]
 pub fn is_below(x: Halves, y: Halves) -> bool
     requires { Carried x × Carried y }
     ensures { result ≡ ltb (value_of x) (value_of y) }
 {
-    let mut one = x.upper;
-    let mut other = y.upper;
-    if x.upper == y.upper {
-        one = x.lower;
-        other = y.lower;
-    }
+    let (one, other) = if x.upper == y.upper {
+        (x.lower, y.lower)
+    } else {
+        (x.upper, y.upper)
+    };
     one < other
 }
 
 // a × b/d to the nearest whole number, and which way it went. The upper half of the product is divided first, and what is left of it
 // goes into the lower.
-pub fn rounded_product(a: u64, b: u64, d: u64) -> Nearest
+#[tactic(auto, using(measures::proofs::Products::product))]
+pub fn rounded_product(a: u64, b: u64, d: u64) -> Nearest<u64>
     requires factors { (a ≤ 2 ^ 47) × (b < 2 ^ 32) }
     requires divisor { (0 < d) × (d ≤ 2 ^ 47) }
     requires quotient { a * b ≤ 2 ^ 62 * d }
-    ensures { (result.number ≡ rounded (a * b) d) × (result.way ≡ way (a * b) d) }
+    ensures { (result.value ≡ rounded (a * b) d) × (result.way ≡ way (a * b) d) }
 {
     let upper = a * (b / SPLIT);
     let lower = a * (b % SPLIT);
     let rest = rounded(upper % d * SPLIT + lower, d);
-    let way = rest.way;
     Nearest {
-        number: upper / d * SPLIT + rest.number,
-        way,
+        value: upper / d * SPLIT + rest.value,
+        ..rest
     }
 }

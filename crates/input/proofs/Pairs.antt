@@ -2,39 +2,24 @@
 use Prim.Native.Nat.{ℕ, ◌+◌, ◌*◌, ◌≤◌, ◌<◌}
 use mathlib.Core.Bool.{Bool, true, false, cond}
 use mathlib.Core.List.{List, [], ◌∷◌}
-use mathlib.Core.Path.{◌≡◌, refl, sym, ap, ◌∙◌}
-use lib.Dec.{ltb}
+use mathlib.Core.Path.{◌≡◌, refl, ap, ◌∙◌, sym}
 use lib.ListN.{length, get_or, drop, length-drop}
 use native.Mathlib.Omega.{arith}
-use borrow.Author.Tests.{ltb-true}
-use Rattle.measures.proofs.Tests.{clash}
-use Rattle.fields.specs.declared.Digit.{Digit}
+use Rattle.std.proofs.Common.{Some, None}
+use Rattle.input.proofs.Rest.{rest_at}
+use Rattle.input.specs.Script.{are_digits, byte_of, bytes_spelled, value_of, digit_value}
+use Rattle.std.specs.Prelude.{Option}
 use Rattle.fields.specs.Digits.{digit_of}
 use Rattle.fields.proofs.Digits.{digit_small}
-use Rattle.input.proofs.Rest.{rest_at}
-use Rattle.input.specs.Script.{value_of, digit_value, are_digits, byte_of, bytes_spelled}
 
-both : (a b : Bool) → cond a b false ≡ true → (a ≡ true) × (b ≡ true)
-both true b e = (refl, e)
-both false b e = clash (cc)
+-- whether there is a byte says whether both are digits
+pub read_byte : (digits : Bool) {v w : ℕ} → Some v ≡ cond digits (Some w) None → (digits ≡ true) × (v ≡ w)
+read_byte true e = (refl, cc)
+read_byte false e = cc
 
-pub high_digit : (x y : ℕ) → are_digits x y ≡ true → digit_value x < 16
-unfolding are_digits
-high_digit x y e = ltb-true (digit_value x) 16 (both (ltb (digit_value x) 16) (ltb (digit_value y) 16) e).0
-
-pub low_digit : (x y : ℕ) → are_digits x y ≡ true → digit_value y < 16
-unfolding are_digits
-low_digit x y e = ltb-true (digit_value y) 16 (both (ltb (digit_value x) 16) (ltb (digit_value y) 16) e).1
-
--- the value of a digit, and of another byte
-module _ {d : Digit} (x : ℕ) (is : d ≡ digit_of x) where
-  pub value_of_lem : {v : ℕ} → d ≡ Digit.Value v → (v ≡ digit_value x) × (v ≤ 16)
-  unfolding digit_value value_of
-  value_of_lem {v} e = (rw (← is, e) refl, omega (arith, digit_small x v (sym is ∙ e)))
-
-  pub other_of : d ≡ Digit.Other → (16 ≡ digit_value x) × (16 ≤ 16)
-  unfolding digit_value value_of
-  other_of e = (rw (← is, e) refl, omega arith)
+pub no_byte : (digits : Bool) (w : ℕ) → None ≡ cond digits (Some w) None → digits ≡ false
+no_byte true w e = cc
+no_byte false w e = refl
 
 two_on : (text : List ℕ) (at : ℕ) → at + 1 < length text → drop at text ≡ get_or text at 0 ∷ get_or text (at + 1) 0 ∷ drop (at + 2) text
 two_on text at l =
@@ -63,3 +48,8 @@ module _ (text : List ℕ) (n : ℕ) where
 
   pub pair_none : length text ≤ 2 * n + 1 → bytes_spelled (drop (2 * n) text) ≡ []
   pair_none l = short _ (simp length-drop (omega arith))
+
+-- the value of a digit
+pub value_of_lem : {d : Option ℕ} {v : ℕ} (x : ℕ) → d ≡ digit_of x → d ≡ Some v → (v ≡ digit_value x) × (v ≤ 16)
+unfolding digit_value value_of
+value_of_lem {d} {v} x is e = (rw (← is, e) refl, omega (arith, digit_small x v (sym is ∙ e)))

@@ -1,15 +1,14 @@
 -- A list put at the start of places, one number after the other; and a list put behind another.
-use Prim.Native.Nat.{ℕ, zero, suc, ◌+◌, ◌≤◌, ◌<◌, ◌/◌, ◌%◌, min}
+use Prim.Native.Nat.{ℕ, zero, suc, ◌+◌, ◌≤◌, ◌<◌, min}
 use mathlib.Core.Path.{◌≡◌, refl, sym, ap, ◌∙◌}
 use mathlib.Core.List.{List, [], ◌∷◌, ◌++◌, append_assoc}
 use native.Mathlib.Nat.{min-eq_left, min-eq_right, min-le_right, zero-min, min-zero, suc-min-suc}
-use native.Mathlib.Numerals.{add-one}
 use native.Mathlib.Omega.{arith}
 use lib.ListN.{length, take, drop, set, length-append, length-set}
-use lib.Seq.{append_snoc, set_at, take_at, drop-drop, drop-append-add, length-take-le, sets-eq}
+use lib.Seq.{append_snoc, set_at, take_at, drop-drop, drop-append-add, length-take-le}
 use Rattle.io.proofs.Counting.{prefix_len_of_le}
 use Rattle.input.specs.Script.{PutIn}
-use Rattle.input.specs.Spelling.{put_at, two_bytes}
+use Rattle.input.specs.Spelling.{put_at}
 use Rattle.input.proofs.Rest.{rest_at}
 
 -- the first n places hold the list's first numbers, `rest` is what is left of it, and the other places are as they were
@@ -97,7 +96,3 @@ put_then xs ys bytes at next {first} e f is room =
     ∙ ap (λ (s : List ℕ). s ++ ys ++ drop (next + length ys) first) front
     ∙ ap (λ (s : List ℕ). head ++ ys ++ s) back
     ∙ ap (λ (s : List ℕ). s ++ drop (at + length (xs ++ ys)) bytes) (append_assoc (take at bytes) xs ys)
-
-pub two_put : (n at : ℕ) (bytes : List ℕ) → at + 2 ≤ length bytes → set (set bytes at (n / 256 % 256)) (at + 1) (n % 256) ≡ put_at (two_bytes n) at bytes
-unfolding put_at two_bytes
-two_put n at bytes room = rw add-one (sets-eq (n / 256 % 256 ∷ n % 256 ∷ []) bytes at room)

@@ -1,5 +1,5 @@
--- What a reading of standard input says of the room that was lent to it. Of the bytes that come in no contract can say anything.
-use Rattle.std.specs.Prelude.{ℕ, ◌-◌, ◌<◌, true, List, ◌≡◌, get_or}
+-- What a reading says of the room that was lent to it. Of the bytes that come in no contract can say anything.
+use Rattle.std.specs.Prelude.{ℕ, ◌-◌, ◌<◌, List, ◌≡◌, get_or, IsSome}
 use Rattle.io.specs.Counts.{IsPrefixLen}
 use Rattle.input.specs.declared.Reading.{Reading}
 
@@ -10,4 +10,4 @@ failed_mark = 0
 -- the bytes to work are at the start of the room, and where a read failed the last of them is the mark
 pub record ReadInto (room : List ℕ) (r : Reading) : Type 0 where
   pub within : IsPrefixLen r.count room
-  pub marked : r.failed ≡ true → (0 < r.count) × (get_or room (r.count - 1) 10 ≡ failed_mark)
+  pub marked : IsSome r.error → (0 < r.count) × (get_or room (r.count - 1) 10 ≡ failed_mark)

@@ -1,7 +1,6 @@
 -- The parts of a script.
-use Rattle.std.specs.Prelude.{ℕ, ◌+◌, ◌*◌, ◌≤◌, ◌<◌, min, Bool, true, false, cond, List, [], ◌∷◌, ◌++◌, map, ◌≡◌, ltb, eqb, length, get_or, take, drop}
+use Rattle.std.specs.Prelude.{ℕ, ◌+◌, ◌*◌, ◌≤◌, ◌<◌, min, Bool, true, false, cond, List, [], ◌∷◌, ◌++◌, map, ◌≡◌, ltb, eqb, length, get_or, take, drop, Option, Some, None}
 use Rattle.io.specs.Counts.{IsPrefixLen}
-use Rattle.fields.specs.declared.Digit.{Digit}
 use Rattle.fields.specs.Digits.{digit_of}
 
 -- r is the place of the first `mark` at or after a place, or the length
@@ -12,9 +11,9 @@ pub record EndAt (text : List ℕ) (from mark r : ℕ) : Type 0 where
   pub marked : r < length text → get_or text r 0 ≡ mark
 
 -- a digit's value, 16 for another character
-unfoldable pub value_of : Digit → ℕ
-value_of (Digit.Value value) = value
-value_of Digit.Other = 16
+unfoldable pub value_of : Option ℕ → ℕ
+value_of (Some value) = value
+value_of None = 16
 
 -- the value of a byte as a digit 0-9 or A-F, 16 for another byte
 unfoldable pub digit_value : ℕ → ℕ

@@ -5,22 +5,29 @@ ghost use Rattle.input.specs.Spelling.{two_bytes, four_bytes, post_bytes, posts_
 
 use posts::{BYTES_OF_POST, Post, TOO_MANY_POSTS};
 
-// Puts the last two bytes of a number at a place.
-fn put_two(bytes: &mut [u8], at: usize, n: u64)
-    requires { at + 2 ≤ length bytes.old }
-    ensures { bytes.new ≡ put_at (two_bytes n) at bytes.old }
+// The last two bytes of a number.
+#[tactic(auto, unfolding(crate::specs::Spelling::two_bytes))]
+fn two_bytes(n: u64) -> [u8; 2]
+    ensures { result ≡ two_bytes n }
 {
-    bytes[at] = (n / 256 % 256) as u8;
-    bytes[at + 1] = (n % 256) as u8;
+    ((n % 65536) as u16).to_be_bytes()
 }
 
-// Puts the last four bytes of a number at a place.
-fn put_four(bytes: &mut [u8], at: usize, n: u64)
-    requires { at + 4 ≤ length bytes.old }
-    ensures { bytes.new ≡ put_at (four_bytes n) at bytes.old }
+// Its last four.
+#[tactic(auto, unfolding(crate::specs::Spelling::two_bytes, crate::specs::Spelling::four_bytes))]
+fn four_bytes(n: u64) -> [u8; 4]
+    ensures { result ≡ four_bytes n }
 {
-    put_two(bytes, at, n / 65536);
-    put_two(bytes, at + 2, n);
+    ((n % 4294967296) as u32).to_be_bytes()
+}
+
+// Puts bytes at a place.
+#[tactic(auto, unfolding(crate::specs::Spelling::put_at))]
+fn put(bytes: &mut [u8], at: usize, list: &[u8])
+    requires { at + length list.now ≤ length bytes.old }
+    ensures { bytes.new ≡ put_at list.now at bytes.old }
+{
+    bytes[at..at + list.len()].copy_from_slice(list);
 }
 
 // Puts a post, h 2, w 2, p 4, s 4 bytes, at a place.
@@ -28,10 +35,10 @@ fn put_post(bytes: &mut [u8], at: usize, x: Post)
     requires { at + bytes_of_post ≤ length bytes.old }
     ensures { bytes.new ≡ put_at (post_bytes x) at bytes.old }
 {
-    put_two(bytes, at, x.contracted.0);
-    put_two(bytes, at + 2, x.whole.0);
-    put_four(bytes, at + 4, x.pay.0);
-    put_four(bytes, at + 8, x.supplement.0);
+    put(bytes, at, &two_bytes(x.contracted.0));
+    put(bytes, at + 2, &two_bytes(x.whole.0));
+    put(bytes, at + 4, &four_bytes(x.pay.0));
+    put(bytes, at + 8, &four_bytes(x.supplement.0));
 }
 
 // The posts of a list in bytes.
@@ -39,11 +46,8 @@ pub fn spelled(list: [Post; TOO_MANY_POSTS]) -> [u8; BYTES_OF_POST * TOO_MANY_PO
     ensures { result ≡ posts_bytes list }
 {
     let mut bytes = [0u8; BYTES_OF_POST * TOO_MANY_POSTS];
-    let mut i: usize = 0;
-    while i < TOO_MANY_POSTS {
-        let x = list[i];
-        put_post(&mut bytes, BYTES_OF_POST * i, x);
-        i += 1;
+    for (i, x) in list.iter().enumerate() {
+        put_post(&mut bytes, BYTES_OF_POST * i, *x);
     }
     bytes
 }

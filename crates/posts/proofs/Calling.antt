@@ -1,33 +1,44 @@
 -- The posts call: the posts in bytes, and what the call gives.
-use mathlib.Core.Path.{◌≡◌, refl, ◌∙◌, ap}
+use mathlib.Core.Path.{◌≡◌, refl, ◌∙◌, ap, ap₂}
 use mathlib.Core.List.{List, [], ◌∷◌, ◌++◌}
-use Prim.Native.Nat.{ℕ, zero, suc, ◌+◌, ◌*◌, ◌/◌, ◌%◌}
+use Prim.Native.Nat.{ℕ, zero, suc, ◌+◌, ◌-◌, ◌*◌, ◌/◌, ◌%◌, ◌<◌}
 use native.Mathlib.Omega.{arith}
 use lib.ListN.{length}
 use borrow.Author.Tests.{eq-eqb, ne_eqb}
-use Rattle.measures.specs.declared.Answer.{Answer}
-use Rattle.measures.specs.Answers.{answer_amount, answer_refusal, answer_with, number_unless}
+use Rattle.std.proofs.Common.{Err}
+use Rattle.measures.specs.Answers.{Answer, answer_amount, answer_refusal, answer_with, number_unless}
 use Rattle.measures.proofs.Answering.{answered}
 use Rattle.posts.specs.declared.Post.{Post}
-use Rattle.posts.specs.declared.Changed.{Changed}
 use Rattle.posts.specs.Limits.{bytes_of_post}
 use Rattle.posts.specs.Posts.{aggregate_pay}
 use Rattle.posts.specs.Lent.{lengths_refusal, lent_refusal, places_unless}
 use Rattle.posts.specs.Call.{post_at, posts_from, posts_in, call_refusal, call_answer, places_after}
-use Rattle.posts.specs.Reading.{ReadTo, Finishing, Ended}
-use Rattle.posts.proofs.ReadingLaws.{read_finishing, read_ended}
+use Rattle.posts.proofs.ReadingLaws.{Lent}
 pub use Rattle.posts.proofs.Standing.{held_none}
 
 -- ---- the posts in bytes
 
--- one post more
-pub from_more : (bytes : List ℕ) (k n : ℕ) → posts_from bytes k (suc n) ≡ posts_from bytes k n ++ post_at bytes (bytes_of_post * (k + n)) ∷ []
+-- those before a number, that of the number, and those after it
+parts_from : (bytes : List ℕ) (k n i : ℕ) → i < n → posts_from bytes k n ≡ posts_from bytes k i ++ post_at bytes (bytes_of_post * (k + i)) ∷ posts_from bytes (suc (k + i)) (n - (i + 1))
 unfolding posts_from
-from_more bytes k zero = let e : k ≡ k + 0 = omega arith in ap (λ (i : ℕ). post_at bytes (bytes_of_post * i) ∷ []) e
-from_more bytes k (suc n) =
-    let e : suc k + n ≡ k + suc n = omega arith in
+parts_from bytes k zero i g = absurd (omega arith)
+parts_from bytes k (suc n) zero g =
+    let e : k ≡ k + 0 = omega arith in
+    let f : n ≡ suc n - (0 + 1) = omega arith in
+    ap₂ (λ (j m : ℕ). post_at bytes (bytes_of_post * j) ∷ posts_from bytes (suc j) m) e f
+parts_from bytes k (suc n) (suc i) g =
+    let e : suc k + i ≡ k + suc i = omega arith in
+    let f : n - (i + 1) ≡ suc n - (suc i + 1) = omega arith in
     ap (λ (xs : List Post). post_at bytes (bytes_of_post * k) ∷ xs)
-    (from_more bytes (suc k) n ∙ ap (λ (i : ℕ). posts_from bytes (suc k) n ++ post_at bytes (bytes_of_post * i) ∷ []) e)
+    (parts_from bytes (suc k) n i (omega arith) ∙ ap₂ (λ (j m : ℕ). posts_from bytes (suc k) i ++ post_at bytes (bytes_of_post * j) ∷ posts_from bytes (suc j) m) e f)
+
+pub from_parts : (bytes : List ℕ) (n i : ℕ) → i < n → posts_from bytes 0 n ≡ posts_from bytes 0 i ++ post_at bytes (bytes_of_post * i) ∷ posts_from bytes (suc i) (n - (i + 1))
+from_parts bytes n i g = let e : 0 + i ≡ i = omega arith in rw e at (parts_from bytes 0 n i g)
+
+-- one post more
+pub from_more : (bytes : List ℕ) (i : ℕ) → posts_from bytes 0 (i + 1) ≡ posts_from bytes 0 i ++ post_at bytes (bytes_of_post * i) ∷ []
+unfolding posts_from
+from_more bytes i = let e : i + 1 - (i + 1) ≡ 0 = omega arith in rw e at (from_parts bytes (i + 1) i (omega arith))
 
 from_length : (bytes : List ℕ) (i n : ℕ) → length (posts_from bytes i n) ≡ n
 unfolding posts_from
@@ -38,54 +49,37 @@ pub posts_length : (bytes : List ℕ) → length (posts_in bytes) ≡ length byt
 unfolding posts_in
 posts_length bytes = from_length bytes 0 (length bytes / bytes_of_post)
 
--- ---- the refusal, in the order of the tests
-
-module _ (bytes : List ℕ) (places : ℕ) where
-  pub call_uneven : (length bytes % bytes_of_post ≡ 0 → ⊥) → call_refusal bytes places ≡ 23
-  unfolding call_refusal
-  call_uneven n = rw (ne_eqb _ _ n) refl
-
-  module _ (even : length bytes % bytes_of_post ≡ 0) where
-    -- with whole posts the refusal is that of the posts themselves
-    pub call_even : call_refusal bytes places ≡ lent_refusal (posts_in bytes) places
-    unfolding call_refusal
-    call_even = rw (eq-eqb _ _ even) refl
-
-    pub call_lengths : (n : ℕ) → n ≡ lengths_refusal (length bytes / bytes_of_post) places → (n ≡ 0 → ⊥) → call_refusal bytes places ≡ n
-    unfolding lent_refusal
-    call_lengths n e some = call_even ∙ rw (posts_length bytes, ← e, ne_eqb _ _ some) refl
-
 -- ---- what the call gives and leaves
 
--- what the contract says of an answer and of the places after the call
-abbrev Given : List ℕ → List ℕ → Answer → List ℕ → Type 0
-Given bytes places a after =
-    (a ≡ call_answer bytes (length places))
-    × ((answer_refusal a ≡ call_refusal bytes (length places))
-    × ((answer_amount a ≡ number_unless (call_refusal bytes (length places)) (aggregate_pay (posts_in bytes)))
-    × (after ≡ places_after bytes places)))
+-- with whole posts the refusal is that of the posts themselves
+pub call_even : (bytes : List ℕ) (places : ℕ) → length bytes % bytes_of_post ≡ 0 → call_refusal bytes places ≡ lent_refusal (posts_in bytes) places
+unfolding call_refusal
+call_even bytes places even = rw (eq-eqb _ _ even) refl
 
 module _ (bytes places : List ℕ) where
-  -- the four promises, from the equations of the answer and of the places
-  given : (a : Answer) (after : List ℕ) → a ≡ call_answer bytes (length places) → after ≡ places_after bytes places → Given bytes places a after
+  -- what the contract says of an answer and of the places after the call
+  abbrev Given : Answer → List ℕ → Type 0
+  Given a after =
+      record {
+        answer : a ≡ call_answer bytes (length places);
+        refusal : answer_refusal a ≡ call_refusal bytes (length places);
+        number : answer_amount a ≡ number_unless (call_refusal bytes (length places)) (aggregate_pay (posts_in bytes));
+        places : after ≡ places_after bytes places;
+      }
+
+  given : (a : Answer) (after : List ℕ) → a ≡ answer_with (call_refusal bytes (length places)) (aggregate_pay (posts_in bytes)) → after ≡ places_after bytes places → Given a after
   unfolding call_answer
-  given a after f g = let p = answered (call_refusal bytes (length places)) (aggregate_pay (posts_in bytes)) a f in (p.0, (p.1.0, (p.1.1, g)))
+  given a after e f = let t = answered _ (aggregate_pay (posts_in bytes)) a e in record { answer = t.0; refusal = t.1.0; number = t.1.1; places = f }
 
-  pub call_refused : (r : ℕ) → call_refusal bytes (length places) ≡ r → (r ≡ 0 → ⊥) → Given bytes places (Answer.Refused r) places
-  unfolding call_answer places_after places_unless answer_with
-  call_refused r e n = given _ _ (rw (e, ne_eqb _ _ n) refl) (rw (e, ne_eqb _ _ n) refl)
+  pub call_uneven : (length bytes % bytes_of_post ≡ 0 → ⊥) → Given (Err 23) places
+  unfolding call_refusal places_after places_unless answer_with
+  call_uneven n = given _ _ (rw (ne_eqb _ _ n) refl) (rw (ne_eqb _ _ n) refl)
 
-  -- the lengths are not refused, and all posts are read
-  module _ (even : length bytes % bytes_of_post ≡ 0) (fit : lengths_refusal (length bytes / bytes_of_post) (length places) ≡ 0) (s : Changed) (so : ReadTo 0 (posts_in bytes) s) where
-    read : ReadTo (lengths_refusal (length (posts_in bytes)) (length places)) (posts_in bytes) s
-    read = rw (posts_length bytes, fit) so
+  module _ (even : length bytes % bytes_of_post ≡ 0) where
+    -- with whole posts it is what the posts themselves give
+    pub call_given : (a : Answer) (after : List ℕ) → Lent (posts_in bytes) places a after → Given a after
+    unfolding places_after
+    call_given a after e = given a after (rw (call_even bytes (length places) even) e.0) (rw (call_even bytes (length places) even) e.1)
 
-    pub call_finishing : Finishing s (length places)
-    call_finishing = read_finishing (posts_in bytes) places s read
-
-    pub call_given : (a : Answer) (after : List ℕ) → Ended s places a after → Given bytes places a after
-    unfolding call_answer places_after
-    call_given a after e =
-        let r = read_ended (posts_in bytes) places s read a after e in
-        let same = call_even bytes (length places) even in
-        given a after (rw same r.0) (rw same r.1)
+    pub call_room : (n : ℕ) → n ≡ lengths_refusal (length bytes / bytes_of_post) (length places) → n ≡ lengths_refusal (length (posts_in bytes)) (length places)
+    call_room n e = rw posts_length e

@@ -2,11 +2,15 @@
 use mathlib.Core.Path.{◌≡◌, refl, sym, ◌∙◌, ap, subst}
 use mathlib.Core.Bool.{Bool, true, false, cond}
 use mathlib.Core.List.{List, []}
-use Prim.Native.Nat.{ℕ, ◌-◌, ◌≤◌, ◌<◌}
+use Prim.Native.Nat.{ℕ, ◌-◌, ◌≤◌}
 use native.Mathlib.Omega.{arith}
 use lib.Dec.{eqb, leb}
-use borrow.Author.Tests.{eq-eqb, eqb-true, eqb-false, le-leb, lt-leb, leb-true}
+use borrow.Author.Tests.{eq-eqb, eqb-true, eqb-false, leb-true}
+use Rattle.std.proofs.Common.{Some, None}
+use Rattle.measures.specs.declared.Refusal.{Refusal}
+use Rattle.measures.specs.Refusals.{number_of, number_beside}
 use Rattle.measures.specs.Tries.{tried, after}
+use Rattle.measures.proofs.Refused.{never_nought}
 use Rattle.measures.proofs.Tests.{passed, and_left, and_right}
 use Rattle.measures.proofs.Trying.{after_end, tried_refused}
 use Rattle.posts.specs.declared.Post.{Post}
@@ -21,21 +25,21 @@ use Rattle.posts.proofs.RankingHeld.{ranking_held}
 
 -- ---- one change, as the code hands it back
 
-module _ (y : YearPosts) (c : Change) (n : ℕ) (e : n ≡ change_refusal (posts_of y) c) where
+module _ (y : YearPosts) (c : Change) (r : Changed) (e : number_beside r.refusal ≡ change_refusal (posts_of y) c) where
   -- refused, the year as it was
-  pub change_refused : Held y → (n ≡ 0 → ⊥) → ChangedBy y c (record { year = y; refusal = n })
-  change_refused held f =
+  pub change_refused : Held y → (number_beside r.refusal ≡ 0 → ⊥) → r.year ≡ y → ChangedBy y c r
+  change_refused held f same =
       record {
         refusal = e;
-        posts = sym (tried_refused change_refusal changed_posts (posts_of y) c (λ z. f (e ∙ z)));
-        held = held;
-        unchanged = λ g. refl;
+        posts = ap posts_of same ∙ sym (tried_refused change_refusal changed_posts (posts_of y) c (λ z. f (e ∙ z)));
+        held = subst Held (sym same) held;
+        unchanged = λ g. same;
       }
 
   -- else the posts changed
-  pub change_made : n ≡ 0 → (r : YearPosts) → Held r → posts_of r ≡ changed_posts (posts_of y) c → ChangedBy y c (record { year = r; refusal = n })
+  pub change_made : number_beside r.refusal ≡ 0 → Held r.year → posts_of r.year ≡ changed_posts (posts_of y) c → ChangedBy y c r
   unfolding tried
-  change_made z r held f =
+  change_made z held f =
       record {
         refusal = e;
         posts = rw (eq-eqb (change_refusal (posts_of y) c) 0 (sym e ∙ z)) f;
@@ -45,36 +49,20 @@ module _ (y : YearPosts) (c : Change) (n : ℕ) (e : n ≡ change_refusal (posts
 
 -- ---- a post joins
 
-module _ (y : YearPosts) (x : Post) (held : Held y) where
-  join_changed : ChangedBy y (joins x) (joining y x)
-  unfolding joining change_refusal changed_posts
-  join_changed = by (eqb (post_refusal (posts_of y) x) 0) refl
-    where
-      by : (t : Bool) → eqb (post_refusal (posts_of y) x) 0 ≡ t → ChangedBy y (joins x) (record { year = cond t (joined_by y x) y; refusal = post_refusal (posts_of y) x })
-      by true e =
-          let z = eqb-true _ 0 e in
-          change_made y (joins x) _ refl z (joined_by y x) (held_joined y x held z) (posts_joined y x held z)
-      by false e = change_refused y (joins x) _ refl held (eqb-false _ 0 e)
-
-  -- what a joining hands back is what a change promises
-  pub join_promised : (r : Changed) → r ≡ joining y x → (r ≡ joining y x) × ChangedBy y (joins x) r
-  join_promised r e = (e, subst (ChangedBy y (joins x)) (sym e) join_changed)
+-- what a joining hands back is what a change promises
+pub join_changed : (y : YearPosts) (x : Post) → Held y → (r : Changed) → number_beside r.refusal ≡ post_refusal (posts_of y) x → r.year ≡ joining y x → ChangedBy y (joins x) r
+unfolding joining change_refusal changed_posts
+join_changed y x held r e f = by (eqb (post_refusal (posts_of y) x) 0) refl f
+  where
+    by : (t : Bool) → eqb (post_refusal (posts_of y) x) 0 ≡ t → r.year ≡ cond t (joined_by y x) y → ChangedBy y (joins x) r
+    by true t f =
+        let z = eqb-true _ 0 t in
+        change_made y (joins x) r e (e ∙ z) (subst Held (sym f) (held_joined y x held z)) (ap posts_of f ∙ posts_joined y x held z)
+    by false t f = change_refused y (joins x) r e held (λ z. eqb-false _ 0 t (sym e ∙ z)) f
 
 -- ---- a post leaves
 
 module _ (count position : ℕ) where
-  pub position_there : 0 < position → position ≤ count → 0 ≡ position_refusal count position
-  unfolding position_refusal
-  position_there g k = rw (le-leb 1 position g, le-leb position count k) refl
-
-  pub position_past : 0 < position → count < position → 29 ≡ position_refusal count position
-  unfolding position_refusal
-  position_past g k = rw (le-leb 1 position g, lt-leb position count k) refl
-
-  pub position_nought : position ≤ 0 → 29 ≡ position_refusal count position
-  unfolding position_refusal
-  position_nought g = rw (lt-leb 1 position (omega arith)) refl
-
   -- a position that is not refused is the place before it, counted from 0
   pub position_place : position_refusal count position ≡ 0 → (1 ≤ position) × (position ≤ count)
   unfolding position_refusal
@@ -85,12 +73,12 @@ module _ (y : YearPosts) (held : Held y) (position : ℕ) where
   unfolding change_refusal
   among = ap (λ (k : ℕ). position_refusal k position) (sym (posts_count y held))
 
-  pub leave_refused : (n : ℕ) → n ≡ position_refusal y.count position → (n ≡ 0 → ⊥) → ChangedBy y (leaves position) (record { year = y; refusal = n })
-  leave_refused n e f = change_refused y (leaves position) n (e ∙ among) held f
+  pub leave_refused : (r : Refusal) → number_of r ≡ position_refusal y.count position → ChangedBy y (leaves position) (record { year = y; refusal = Some r })
+  leave_refused r e = change_refused y (leaves position) _ (e ∙ among) held (never_nought r) refl
 
-  pub leave_made : position_refusal y.count position ≡ 0 → (r : YearPosts) → Held r → posts_of r ≡ without (position - 1) (posts_of y) → ChangedBy y (leaves position) (record { year = r; refusal = 0 })
+  pub leave_made : 0 ≡ position_refusal y.count position → (r : YearPosts) → Held r → posts_of r ≡ without (position - 1) (posts_of y) → ChangedBy y (leaves position) (record { year = r; refusal = None })
   unfolding changed_posts
-  leave_made z r h f = change_made y (leaves position) 0 (sym z ∙ among) refl r h f
+  leave_made z r h f = change_made y (leaves position) _ (z ∙ among) refl h f
 
 -- ---- every list of changes
 

@@ -7,7 +7,7 @@ use Rattle.measures.specs.declared.Way.{Way}
 use Rattle.measures.specs.Rounding.{rounded, way}
 use Rattle.measures.specs.Tries.{tried, after}
 use Rattle.posts.specs.declared.Post.{Post}
-use Rattle.posts.specs.declared.Comparison.{Comparison}
+use Rattle.std.proofs.Common.{Greater}
 use Rattle.posts.specs.Posts.{post_of, parts, counted, counted_together, aggregate_pay, aggregate_way, aggregate}
 use Rattle.posts.specs.Refusals.{post_stands, post_refusal}
 use Rattle.posts.specs.Rates.{comparison}
@@ -33,7 +33,7 @@ pub supplements_shown :
     Gives (two (post_of 2250 2250 2000000 50000) (post_of 300 2250 900000 700000)) 2050000 (5737500 ∷ 0 ∷ []) ×
     -- products of 71 bits, the first higher by 1
     Gives (two (post_of 10079 10080 999998148 915106033) (post_of 10067 10069 999991861 912922865)) 1914159018 (202960943 ∷ 0 ∷ []) ×
-    (comparison (post_of 10079 10080 999998148 915106033) (post_of 10067 10069 999991861 912922865) ≡ Comparison.Higher)
+    (comparison (post_of 10079 10080 999998148 915106033) (post_of 10067 10069 999991861 912922865) ≡ Greater)
 unfolding aggregate_pay counted counted_together rounded comparison
 supplements_shown = ((refl, refl), (refl, refl), (refl, refl), (refl, refl), (refl, refl), (refl, refl), (refl, refl), refl)
 

@@ -8,7 +8,10 @@ use Prim.Native.Nat.{ℕ, suc, ◌+◌, ◌*◌, ◌-◌, ◌≤◌, ◌<◌}
 use native.Mathlib.Omega.{arith}
 use lib.Dec.{ltb}
 use lib.ListN.{length, take, drop, get_or, set, length-drop}
-use lib.Seq.{get_or-take, get_or-drop, paste, paste-zero, paste-suc, take-paste, length-paste}
+use Rattle.std.specs.List.{copy_within}
+use Rattle.std.proofs.lemmas.List.{get_or-append_right, get_or-drop}
+use native.Mathlib.Numerals.{add-one}
+use lib.Seq.{get_or-take, length-take-le, paste, take-paste, length-paste}
 use borrow.Author.Tests.{lt-ltb}
 use Rattle.measures.specs.Lists.{All}
 use Rattle.measures.specs.Limits.{most_posts}
@@ -17,20 +20,31 @@ use Rattle.posts.specs.declared.Post.{Post}
 use Rattle.posts.specs.declared.YearPosts.{YearPosts}
 use Rattle.posts.specs.Posts.{h, w, contracted_minutes, weighted_parts, whole_time}
 use Rattle.posts.specs.Limits.{longest_week}
-use Rattle.posts.specs.Refusals.{Stands}
+use Rattle.posts.specs.Refusals.{Stands, post_refusal}
 use Rattle.posts.specs.Rates.{ranked_before, minutes_ahead}
 use Rattle.posts.specs.Changes.{without}
-use Rattle.posts.specs.Year.{no_post, no_minutes, minutes_before, whole_times, RankedBy, posts_of, Held, raised_by, lowered_by, WithoutPlace}
+use Rattle.posts.specs.Year.{no_post, no_minutes, minutes_before, whole_times, RankedBy, posts_of, Held, joined_by, raised_by, lowered_by, WithoutPlace}
 use Rattle.posts.proofs.Ranks.{other_way, raised_length, raised_at, raised_past, lowered_length, lowered_at, lowered_past, lowered_fits, without_length, without_before, without_after, minutes_without, weighted_without, wholes_without, all_without, ranked_without, moved_up}
-use Rattle.posts.proofs.Standing.{posts_count}
-use Rattle.posts.proofs.Turns.{ahead_turn, ahead_start, ahead_none, front, past, at_place, write_turn, write_all}
+use Rattle.posts.proofs.Standing.{posts_count, place_stands, joined_is}
+use Rattle.posts.proofs.Turns.{ahead_turn, ahead_none, front, past, at_place, write_turn, write_all}
 
--- ---- a post joins: i posts are compared with it
+-- the first place that is not yet written holds what it held
+next_held : {A : Type 0} (s d : List A) (i : ℕ) (z : A) → i ≤ length s → get_or (take i s ++ drop i d) i z ≡ get_or d i z
+next_held s d i z g =
+    get_or-append_right (take i s) (drop i d) i i z (length-take-le i s g) (omega arith)
+    ∙ get_or-drop i d (i - i) z ∙ ap (λ (k : ℕ). get_or d k z) (let e : i + (i - i) ≡ i = omega arith in e)
 
-pub record Entering (y : YearPosts) (x : Post) (rs : List Minutes) (before i : ℕ) : Type 0 where
+-- a year with another ranking
+abbrev with_ranking : YearPosts → List Minutes → YearPosts
+with_ranking y rs = record { list = y.list; ranking = rs; count = y.count; minutes = y.minutes; weighted = y.weighted; wholes = y.wholes }
+
+-- ---- a post joins: i posts are compared with it, and the year is as it is then
+
+pub record Entering (y : YearPosts) (x : Post) (now : YearPosts) (before i : ℕ) : Type 0 where
+  pub year : now ≡ with_ranking y now.ranking
   pub within : i ≤ y.count
   pub most : before ≤ longest_week * i
-  pub ranking : rs ≡ take i (raised_by x y.ranking (posts_of y)) ++ drop i y.ranking
+  pub ranking : now.ranking ≡ take i (raised_by x y.ranking (posts_of y)) ++ drop i y.ranking
   pub ahead : before + minutes_ahead x (y.count - i) (drop i (posts_of y)) ≡ minutes_ahead x y.count (posts_of y)
 
 module _ (y : YearPosts) (x : Post) (held : Held y) where
@@ -40,20 +54,30 @@ module _ (y : YearPosts) (x : Post) (held : Held y) where
   count : length (posts_of y) ≡ y.count
   count = posts_count y held
 
-  pub entering_start : Entering y x y.ranking 0 0
-  entering_start = record { within = omega arith; most = omega arith; ranking = refl; ahead = ahead_start x y.count (posts_of y) }
+  -- the next post and its minutes are what they were
+  entering_post : (now : YearPosts) (before i : ℕ) → Entering y x now before i → get_or now.list i no_post ≡ get_or y.list i no_post
+  entering_post now before i e = ap (λ (n : YearPosts). get_or n.list i no_post) e.year
 
-  pub entering_turn : (rs : List Minutes) (before i v b : ℕ) (higher : Bool) → Entering y x rs before i → i < y.count
-      → higher ≡ ranked_before (get_or y.list i no_post) false x
-      → v ≡ minutes_before y i + cond higher (h x) 0
-      → b ≡ cond (not higher) (h (get_or y.list i no_post)) 0 → b ≤ longest_week
-      → Entering y x (set rs i (record { 0 = v })) (before + b) (i + 1)
-  entering_turn rs before i v b higher e g t ev eb few =
+  pub entering_stands : (now : YearPosts) (before i : ℕ) → Entering y x now before i → i < y.count → Stands (get_or now.list i no_post)
+  entering_stands now before i e g = subst Stands (sym (entering_post now before i e)) (place_stands y held i g)
+
+  pub entering_minutes : (now : YearPosts) (before i : ℕ) → Entering y x now before i → minutes_before now i ≡ minutes_before y i
+  entering_minutes now before i e =
+      ap (λ (rs : List Minutes). (get_or rs i no_minutes).0) e.ranking
+      ∙ ap (λ (m : Minutes). m.0) (next_held s y.ranking i no_minutes (omega (arith, e.within, raised_length x y.ranking (posts_of y), held.places, held.few)))
+
+  pub entering_turn : (now : YearPosts) (before i k b : ℕ) (higher : Bool) → Entering y x now before i → i < y.count
+      → higher ≡ ranked_before (get_or now.list i no_post) false x
+      → k ≡ cond higher (h x) 0
+      → b ≡ cond (not higher) (h (get_or now.list i no_post)) 0 → b ≤ longest_week
+      → Entering y x (with_ranking now (set now.ranking i (record { 0 = minutes_before now i + k }))) (before + b) (i + 1)
+  entering_turn now before i k b higher e g t ev eb few =
       record {
+        year = ap (λ (n : YearPosts). with_ranking n (set now.ranking i (record { 0 = minutes_before now i + k }))) e.year;
         within = omega arith;
         most = omega (arith, e.most);
         ranking =
-            ap (λ (z : List Minutes). set z i (record { 0 = v })) e.ranking
+            ap (λ (z : List Minutes). set z i (record { 0 = minutes_before now i + k })) e.ranking
             ∙ ap (λ (m : Minutes). set (take i s ++ drop i y.ranking) i m) value
             ∙ write_turn no_minutes s y.ranking i (omega (arith, raised_length x y.ranking (posts_of y), held.places, held.few)) (omega (arith, held.places, held.few));
         ahead =
@@ -64,26 +88,39 @@ module _ (y : YearPosts) (x : Post) (held : Held y) where
               ahead_turn x z y.count i (drop (i + 1) (posts_of y)),
               ap (λ (k : Bool). cond (ranked_before x k z) (h z) 0) (lt-ltb i y.count g),
               ap (λ (k : Bool). cond k (h z) 0) (other_way x z),
-              eb ∙ ap (λ (k : Bool). cond (not k) (h z) 0) t,
+              eb ∙ ap (λ (q : Post). cond (not higher) (h q) 0) post ∙ ap (λ (k : Bool). cond (not k) (h z) 0) ranked,
             );
       }
     where
       z : Post
       z = get_or y.list i no_post
 
-      value : record { 0 = v } ≡ get_or s i no_minutes
+      post : get_or now.list i no_post ≡ z
+      post = entering_post now before i e
+
+      ranked : higher ≡ ranked_before z false x
+      ranked = t ∙ ap (λ (q : Post). ranked_before q false x) post
+
+      value : record { 0 = minutes_before now i + k } ≡ get_or s i no_minutes
       value =
-          ap (λ (k : ℕ). record { 0 = k }) (ev ∙ ap (λ (k : Bool). minutes_before y i + cond k (h x) 0) (t ∙ ap (λ (q : Post). ranked_before q false x) (sym (at_place y held i g))))
+          ap₂ (λ (m n : ℕ). record { 0 = m + n }) (entering_minutes now before i e) (ev ∙ ap (λ (k : Bool). cond k (h x) 0) (ranked ∙ ap (λ (q : Post). ranked_before q false x) (sym (at_place y held i g))))
           ∙ sym (raised_at x y.ranking (posts_of y) i (omega (arith, count)) (omega (arith, count, held.places, held.few)))
 
-  pub entering_end : (rs : List Minutes) (before i : ℕ) → Entering y x rs before i → y.count ≤ i → (rs ≡ s) × (before ≡ minutes_ahead x y.count (posts_of y))
-  entering_end rs before i e g = (
-    e.ranking ∙ ap (λ (k : ℕ). take k s ++ drop k y.ranking) here ∙ write_all s y.ranking (length (posts_of y)) (raised_past x y.ranking (posts_of y)),
+  pub entering_end : (now : YearPosts) (before i : ℕ) → Entering y x now before i → y.count ≤ i → (now ≡ with_ranking y s) × (before ≡ minutes_ahead x y.count (posts_of y))
+  entering_end now before i e g = (
+    e.year ∙ ap (with_ranking y) (e.ranking ∙ ap (λ (k : ℕ). take k s ++ drop k y.ranking) here ∙ write_all s y.ranking (length (posts_of y)) (raised_past x y.ranking (posts_of y))),
     omega (arith, e.ahead, ap (minutes_ahead x (y.count - i)) (past y held i g), ahead_none x (y.count - i)),
   )
     where
       here : i ≡ length (posts_of y)
       here = omega (arith, e.within, count)
+
+  -- the year as the code makes it once all are compared
+  pub entered : (accepted : post_refusal (posts_of y) x ≡ 0) (now : YearPosts) (before i k m : ℕ) → Entering y x now before i → y.count ≤ i → k ≡ w x * h x → m ≡ cond (whole_time x) 1 0
+      → ◌≡◌ {A = YearPosts} (record { list = set now.list y.count x; ranking = set now.ranking y.count (record { 0 = before }); count = y.count + 1; minutes = record { 0 = now.minutes.0 + h x }; weighted = now.weighted + k; wholes = now.wholes + m }) (joined_by y x)
+  entered accepted now before i k m e g f t =
+      let d = entering_end now before i e g in
+      rw d.0 (joined_is y x held accepted _ _ _ _ refl d.1 f t)
 
 -- ---- a post is about to leave: i posts are compared with it
 
@@ -101,30 +138,35 @@ module _ (y : YearPosts) (at : ℕ) (held : Held y) (inside : at < y.count) wher
   count' : length (posts_of y) ≡ y.count
   count' = posts_count y held
 
-  pub leaving_start : Leaving y at y.ranking 0
-  leaving_start = record { within = omega arith; ranking = refl }
+  -- the minutes of the next post are what they were
+  leaving_minutes : (rs : List Minutes) (i : ℕ) → Leaving y at rs i → i < y.count → get_or rs i no_minutes ≡ get_or y.ranking i no_minutes
+  leaving_minutes rs i e g =
+      ap (λ (l : List Minutes). get_or l i no_minutes) e.ranking
+      ∙ next_held low y.ranking i no_minutes (omega (arith, lowered_length 0 x at y.ranking (posts_of y), held.places, held.few))
 
   -- what is taken from the minutes before a post is among them
-  pub leaving_fits : (i : ℕ) → i < y.count → cond (ranked_before (get_or y.list i no_post) (ltb at i) x) (h x) 0 ≤ minutes_before y i
-  leaving_fits i g =
-      rw (held.ranked i (omega (arith, count')), ← at_place y held i g, ← at_place y held at inside)
+  pub leaving_fits : (rs : List Minutes) (i k : ℕ) (behind : Bool) → Leaving y at rs i → i < y.count
+      → behind ≡ ranked_before (get_or y.list i no_post) (ltb at i) x → k ≡ cond behind (h x) 0 → k ≤ (get_or rs i no_minutes).0
+  leaving_fits rs i k behind e g t ek =
+      rw (ek, t, leaving_minutes rs i e g, held.ranked i (omega (arith, count')), ← at_place y held i g, ← at_place y held at inside)
       (lowered_fits (posts_of y) at i (omega (arith, count')) (omega (arith, count')))
 
-  pub leaving_turn : (rs : List Minutes) (i v : ℕ) → Leaving y at rs i → i < y.count
-      → v ≡ minutes_before y i - cond (ranked_before (get_or y.list i no_post) (ltb at i) x) (h x) 0
-      → Leaving y at (set rs i (record { 0 = v })) (i + 1)
-  leaving_turn rs i v e g ev =
+  pub leaving_turn : (rs : List Minutes) (i k : ℕ) (behind : Bool) → Leaving y at rs i → i < y.count
+      → behind ≡ ranked_before (get_or y.list i no_post) (ltb at i) x → k ≡ cond behind (h x) 0
+      → Leaving y at (set rs i (record { 0 = (get_or rs i no_minutes).0 - k })) (i + 1)
+  leaving_turn rs i k behind e g t ek =
       record {
         within = omega arith;
         ranking =
-            ap (λ (z : List Minutes). set z i (record { 0 = v })) e.ranking
+            ap (λ (z : List Minutes). set z i (record { 0 = (get_or rs i no_minutes).0 - k })) e.ranking
             ∙ ap (λ (m : Minutes). set (take i low ++ drop i y.ranking) i m) value
             ∙ write_turn no_minutes low y.ranking i (omega (arith, lowered_length 0 x at y.ranking (posts_of y), held.places, held.few)) (omega (arith, held.places, held.few));
       }
     where
-      value : record { 0 = v } ≡ get_or low i no_minutes
+      value : record { 0 = (get_or rs i no_minutes).0 - k } ≡ get_or low i no_minutes
       value =
-          ap (λ (k : ℕ). record { 0 = k }) (ev ∙ ap (λ (q : Post). minutes_before y i - cond (ranked_before q (ltb at i) x) (h x) 0) (sym (at_place y held i g)))
+          ap₂ (λ (m : Minutes) (n : ℕ). record { 0 = m.0 - n }) (leaving_minutes rs i e g)
+          (ek ∙ ap (λ (b : Bool). cond b (h x) 0) (t ∙ ap (λ (q : Post). ranked_before q (ltb at i) x) (sym (at_place y held i g))))
           ∙ sym (lowered_at x at y.ranking (posts_of y) i (omega (arith, count')) (omega (arith, count', held.places, held.few)))
 
   pub leaving_end : (rs : List Minutes) (i : ℕ) → Leaving y at rs i → y.count ≤ i → rs ≡ low
@@ -134,38 +176,16 @@ module _ (y : YearPosts) (at : ℕ) (held : Held y) (inside : at < y.count) wher
       here : i ≡ length (posts_of y)
       here = omega (arith, e.within, count')
 
--- ---- places moved up: those from `at` to i hold what the next one held
+-- ---- places moved up: those from `at` on, before the n, hold what the next one held
 
-pub record MovedUp {A : Type 0} (list : List A) (at n : ℕ) (moved : List A) (i : ℕ) : Type 0 where
-  pub from : at ≤ i
-  pub within : i < n
-  pub is : moved ≡ paste list at (drop (suc at) list) (i - at)
-
-module _ {A : Type 0} (z : A) (list : List A) (at n : ℕ) (inside : at < n) (few : n ≤ length list) where
-  pub moved_start : MovedUp list at n list at
-  moved_start = record { from = omega arith; within = inside; is = paste-zero list at (drop (suc at) list) ∙ ap (paste list at (drop (suc at) list)) (let e : 0 ≡ at - at = omega arith in e) }
-
-  pub moved_turn : (moved : List A) (i : ℕ) → MovedUp list at n moved i → i + 1 < n → MovedUp list at n (set moved i (get_or list (i + 1) z)) (i + 1)
-  moved_turn moved i m g =
-      record {
-        from = omega (arith, m.from);
-        within = g;
-        is =
-            ap (λ (l : List A). set l i (get_or list (i + 1) z)) m.is
-            ∙ ap₂ (λ (k : ℕ) (v : A). set (paste list at (drop (suc at) list) (i - at)) k v) (let e : i ≡ at + (i - at) = omega (arith, m.from) in e)
-            (ap (λ (k : ℕ). get_or list k z) (let e : i + 1 ≡ suc at + (i - at) = omega (arith, m.from) in e) ∙ sym (get_or-drop (suc at) list (i - at) z))
-            ∙ paste-suc list at (drop (suc at) list) (i - at) z (omega (arith, m.from)) (omega (arith, m.from, length-drop (suc at) list))
-            ∙ ap (paste list at (drop (suc at) list)) (let e : suc (i - at) ≡ i + 1 - at = omega (arith, m.from) in e);
-      }
-
-  pub moved_end : length list ≡ most_posts → (moved : List A) (i : ℕ) → MovedUp list at n moved i → n ≤ i + 1 → WithoutPlace list at n moved
-  moved_end room moved i m g = (
-    ap length m.is ∙ length-paste list at (drop (suc at) list) (i - at) (omega (arith, m.from, m.within)) (omega (arith, m.from, m.within, length-drop (suc at) list)) ∙ room,
-    ap₂ (λ (k : ℕ) (l : List A). take k l) (let e : n - 1 ≡ at + (i - at) = omega (arith, m.from, m.within) in e) m.is
-        ∙ take-paste list at (drop (suc at) list) (i - at) (omega arith) (omega (arith, m.from, m.within, length-drop (suc at) list))
-        ∙ ap (λ (k : ℕ). take at list ++ take k (drop (suc at) list)) (let e : i - at ≡ n - suc at = omega (arith, m.from, m.within) in e)
-        ∙ sym (moved_up at n list inside few),
-  )
+moved_is : {A : Type 0} (list : List A) (at n : ℕ) → at < n → n ≤ length list → length list ≡ most_posts → WithoutPlace list at n (copy_within list (at + 1) n at)
+moved_is list at n inside few room =
+    rw add-one (
+      length-paste list at (drop (suc at) list) (n - suc at) (omega arith) (omega (arith, length-drop (suc at) list)) ∙ room,
+      ap (λ (k : ℕ). take k (paste list at (drop (suc at) list) (n - suc at))) (let e : n - 1 ≡ at + (n - suc at) = omega arith in e)
+          ∙ take-paste list at (drop (suc at) list) (n - suc at) (omega arith) (omega (arith, length-drop (suc at) list))
+          ∙ sym (moved_up at n list inside few),
+    )
 
 -- ---- the year that a post has left
 
@@ -179,6 +199,11 @@ without_take at n l z i g =
 module _ (y : YearPosts) (at : ℕ) (held : Held y) (inside : at < y.count) where
   abbrev leaver : Post
   leaver = get_or y.list at no_post
+
+  -- the year with these places, from which k and m of its numbers are taken
+  abbrev without_year : List Post → List Minutes → ℕ → ℕ → YearPosts
+  without_year list ranks k m =
+      record { list = list; ranking = ranks; count = y.count - 1; minutes = record { 0 = y.minutes.0 - h leaver }; weighted = y.weighted - k; wholes = y.wholes - m }
 
   many : length (posts_of y) ≡ y.count
   many = posts_count y held
@@ -194,6 +219,15 @@ module _ (y : YearPosts) (at : ℕ) (held : Held y) (inside : at < y.count) wher
 
   pub leaver_wholes : y.wholes ≡ whole_times (without at (posts_of y)) + cond (whole_time leaver) 1 0
   leaver_wholes = held.wholes ∙ wholes_without at (posts_of y) (omega (arith, many)) ∙ ap (λ (x : Post). whole_times (without at (posts_of y)) + cond (whole_time x) 1 0) there
+
+  -- the places of the posts and of their ranking once they have moved up
+  pub posts_moved : WithoutPlace y.list at y.count (copy_within y.list (at + 1) y.count at)
+  posts_moved = moved_is y.list at y.count inside (omega (arith, held.room, held.few)) held.room
+
+  pub ranks_moved : WithoutPlace (lowered_by leaver at y.ranking (posts_of y)) at y.count (copy_within (lowered_by leaver at y.ranking (posts_of y)) (at + 1) y.count at)
+  ranks_moved =
+      let long = lowered_length 0 leaver at y.ranking (posts_of y) in
+      moved_is (lowered_by leaver at y.ranking (posts_of y)) at y.count inside (omega (arith, long, held.places, held.few)) (long ∙ held.places)
 
   -- every field of the year without it
   module _ (r : YearPosts)
@@ -230,3 +264,17 @@ module _ (y : YearPosts) (at : ℕ) (held : Held y) (inside : at < y.count) wher
           ranked = subst (RankedBy r.ranking) (sym left_posts) ranked_left;
           stand = subst (All Stands) (sym left_posts) (all_without Stands at (posts_of y) held.stand);
         }
+
+  -- as the code makes it: the places of its ranking, lowered, have moved up as those of its posts have
+  pub taken_out : (z : YearPosts) → y ≡ z → (rs ranks : List Minutes) (list : List Post) (k m : ℕ)
+      → rs ≡ lowered_by (get_or z.list at no_post) at z.ranking (posts_of z)
+      → list ≡ copy_within y.list (at + 1) y.count at → ranks ≡ copy_within rs (at + 1) y.count at
+      → k ≡ w leaver * h leaver → m ≡ cond (whole_time leaver) 1 0
+      → Held (without_year list ranks k m) × (posts_of (without_year list ranks k m) ≡ without at (posts_of y))
+  taken_out z same rs ranks list k m e p q f t =
+      let lowered = subst (λ (z : YearPosts). rs ≡ lowered_by (get_or z.list at no_post) at z.ranking (posts_of z)) (sym same) e in
+      let posts : WithoutPlace y.list at y.count list = rw p posts_moved in
+      let places : WithoutPlace (lowered_by leaver at y.ranking (posts_of y)) at y.count ranks = rw (q, lowered) ranks_moved in
+      let weights = ap (λ (n : ℕ). y.weighted - n) f in
+      let wholes = ap (λ (n : ℕ). y.wholes - n) t in
+      (left_held _ refl posts places refl weights wholes, left_posts _ refl posts places refl weights wholes)

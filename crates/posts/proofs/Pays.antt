@@ -1,12 +1,12 @@
 -- At every h above nought the pays alone give the answer that the products give, and without a supplement rates compare as document 01's.
 use Prim.Native.Nat.{ℕ, ◌*◌, ◌≤◌, ◌<◌}
 use mathlib.Core.Path.{◌≡◌, refl, sym, ◌∙◌, ap, ap₂}
-use mathlib.Core.Bool.{Bool, true, false}
+use mathlib.Core.Bool.{Bool, true, false, cond}
 use native.Mathlib.Nat.{mul-le-mul_right, mul-lt-mul_of_pos_right, mul_comm, mul-pos}
 use native.Mathlib.Omega.{arith}
 use lib.Dec.{leb, ltb}
-use borrow.Author.Tests.{leb-true, leb-false, ltb-true, ltb-false, le-leb, lt-leb, lt-ltb, le-ltb}
-use Rattle.posts.specs.declared.Comparison.{Comparison}
+use borrow.Author.Tests.{leb-true, leb-false, ltb-true, ltb-false, le-leb, lt-leb, lt-ltb, le-ltb, eq-eqb, ne_eqb}
+use Rattle.std.proofs.Common.{Greater, Less, Equal, nat_cmp}
 use Rattle.posts.specs.declared.Post.{Post}
 use Rattle.posts.specs.Posts.{h, w, p, HasMinutes, NoSupplement, rate_over, rate_under}
 use Rattle.posts.specs.Rates.{ordered, comparison}
@@ -32,28 +32,38 @@ pays_decide a b m k = rw (ltb_scaled b a m k, ltb_scaled a b m k)
 
 -- some answers; at h = 0 the products are equal, whatever the pays
 pub pays_shown :
-    (ordered 5 5 ≡ Comparison.Equal) ×
-    (ordered 6 5 ≡ Comparison.Higher) ×
-    (ordered 5 6 ≡ Comparison.Lower) ×
-    (ordered 18446744073709551615 0 ≡ Comparison.Higher) ×
-    (ordered (5 * 3) (6 * 3) ≡ Comparison.Lower) ×
-    (ordered (5 * 0) (6 * 0) ≡ Comparison.Equal)
+    (ordered 5 5 ≡ Equal) ×
+    (ordered 6 5 ≡ Greater) ×
+    (ordered 5 6 ≡ Less) ×
+    (ordered 18446744073709551615 0 ≡ Greater) ×
+    (ordered (5 * 3) (6 * 3) ≡ Less) ×
+    (ordered (5 * 0) (6 * 0) ≡ Equal)
 unfolding ordered
 pays_shown = (refl, refl, refl, refl, refl, refl)
 
 -- the answer by its tests
 module _ (a b : ℕ) where
-  pub ordered_higher : b < a → Comparison.Higher ≡ ordered a b
+  pub ordered_higher : b < a → Greater ≡ ordered a b
   unfolding ordered
   ordered_higher k = rw (lt-ltb b a k)
 
-  pub ordered_lower : a < b → Comparison.Lower ≡ ordered a b
+  pub ordered_lower : a < b → Less ≡ ordered a b
   unfolding ordered
   ordered_lower k = rw (le-ltb b a (omega arith), lt-ltb a b k)
 
-  pub ordered_equal : a ≤ b → b ≤ a → Comparison.Equal ≡ ordered a b
+  pub ordered_equal : a ≤ b → b ≤ a → Equal ≡ ordered a b
   unfolding ordered
   ordered_equal k l = rw (le-ltb b a k, le-ltb a b l)
+
+  -- and by std's comparison
+  pub as_compared : nat_cmp a b ≡ ordered a b
+  unfolding ordered
+  as_compared = by (ltb b a) (ltb a b) refl refl
+    where
+      by : (s t : Bool) → ltb b a ≡ s → ltb a b ≡ t → nat_cmp a b ≡ cond s Greater (cond t Less Equal)
+      by true t e f = let k = ltb-true b a e in rw (le-ltb a b (omega arith), ne_eqb a b (λ q. omega arith))
+      by false true e f = rw f
+      by false false e f = rw (f, eq-eqb a b (omega (arith, ltb-false b a e, ltb-false a b f)))
 
 -- two rates compare as their cross products do
 pub by_products : (x y : Post) {a b : ℕ} → a ≡ rate_over x * rate_under y → b ≡ rate_over y * rate_under x → ordered a b ≡ comparison x y

@@ -1,33 +1,34 @@
 -- What holds of posts that stand and of a year that holds them.
-use mathlib.Core.Path.{◌≡◌, refl, sym, ◌∙◌, ap, ap₂, subst}
+use mathlib.Core.Path.{◌≡◌, refl, sym, ◌∙◌, ap, subst}
 use mathlib.Core.Bool.{Bool, true, false, ◌&&◌, not, cond}
 use mathlib.Core.List.{List, [], ◌∷◌, ◌++◌}
 use Prim.Native.Nat.{ℕ, ◌+◌, ◌*◌, ◌^◌, ◌≤◌, ◌<◌}
 use native.Mathlib.Nat.{not-suc-le-zero, mul-le-mul, mul-le-mul_left, mul_comm, mul-pos}
 use native.Mathlib.Numerals.{add-one}
 use native.Mathlib.Omega.{arith}
-use lib.Dec.{ltb, eqb}
+use lib.Dec.{ltb}
 use lib.ListN.{length, get_or, set, length-set}
 use lib.Seq.{get_or-take, take-suc-set, length-take-le}
-use borrow.Author.Tests.{ltb-true, lt-ltb, le-ltb, eqb-true, eq-eqb, ne_eqb}
+use borrow.Author.Tests.{ltb-true, eq-eqb, ne_eqb}
 use Rattle.measures.specs.Lists.{All}
 use Rattle.measures.specs.Limits.{highest_pay, highest_supplement, highest_counted, highest_aggregate, most_posts}
 use Rattle.measures.proofs.Lists.{all_end, all_at, all_map}
 use Rattle.measures.specs.declared.Minutes.{Minutes}
 use Rattle.measures.specs.declared.Way.{Way}
 use Rattle.measures.specs.Rounding.{rounded}
-use Rattle.measures.specs.Refusals.{unless}
+use Rattle.measures.specs.Refusals.{unless, first_refusal}
 use Rattle.measures.proofs.Rounding.{rounded_bound}
 use Rattle.measures.proofs.Tests.{parts as tested, passed, neither, and_left, and_right}
 use Rattle.posts.specs.declared.Post.{Post}
 use Rattle.posts.specs.declared.YearPosts.{YearPosts}
-use Rattle.posts.specs.declared.Changed.{Changed}
+use Rattle.posts.specs.declared.YearPosts.TheInside.{Inside}
+use Rattle.posts.specs.YearFields.{year_of}
 use Rattle.posts.specs.Limits.{longest_week, most_minutes, heaviest_week, most_parts, highest_rate_over}
 use Rattle.posts.specs.Posts.{h, w, p, s, HasMinutes, contracted_minutes, weighted_parts, rate_over, rate_under, counted, whole_time, any_whole_time, aggregate_pay}
 use Rattle.posts.specs.Refusals.{post_stands, Stands, post_refusal}
 use Rattle.posts.specs.Rates.{minutes_ahead}
 use Rattle.posts.specs.Year.{no_post, no_posts, posts_of, whole_times, RankedBy, Held, raised_by, joined_by, joining}
-use Rattle.posts.proofs.Ranks.{raised_length, ranked_end}
+use Rattle.posts.proofs.Ranks.{any_whole_time_lem, raised_length, ranked_end}
 use Rattle.posts.proofs.Aggregate.{Rounds, rate_under_pos, full_rounds, none_rounds, counted_most, pay_total, aggregate_bound}
 
 -- the limits of refusal 7
@@ -115,6 +116,14 @@ module _ (y : YearPosts) (held : Held y) where
       subst Stands (get_or-take y.count y.list i no_post g)
       (all_at Stands (posts_of y) i no_post held.stand (omega (arith, posts_count)))
 
+-- a place of a year is one of the places that its fields hold
+pub place_in : {a : Inside} {y : YearPosts} (at : ℕ) → year_of a ≡ y → at < y.count → at < a.count
+place_in at e g = subst (λ (z : YearPosts). at < z.count) (sym e) g
+
+-- a post that a year does not refuse, its fields do not refuse
+pub unrefused_in : {a : Inside} {y : YearPosts} (x : Post) → year_of a ≡ y → post_refusal (posts_of y) x ≡ 0 → post_refusal (posts_of (year_of a)) x ≡ 0
+unrefused_in x e z = subst (λ (y : YearPosts). post_refusal (posts_of y) x ≡ 0) (sym e) z
+
 -- ---- a post that joins
 
 pub record Joins (before : List Post) (x : Post) : Type 0 where
@@ -148,6 +157,9 @@ wholes_most [] = omega arith
 wholes_most (x ∷ xs) = omega (arith, wholes_most xs, one_at_most (whole_time x))
 
 module _ (y : YearPosts) (x : Post) (held : Held y) (accepted : post_refusal (posts_of y) x ≡ 0) where
+  pub joins_stands : Stands x
+  joins_stands = (joins (posts_of y) x accepted).stands
+
   pub joins_few : y.count < most_posts
   joins_few = omega (arith, (joins (posts_of y) x accepted).few, posts_count y held)
 
@@ -185,63 +197,24 @@ module _ (y : YearPosts) (x : Post) (held : Held y) (accepted : post_refusal (po
         stand = subst (All Stands) (sym posts_joined) (stand_end (posts_of y) x held.stand (joins (posts_of y) x accepted).stands);
       }
 
--- ---- a post that is to join: the year with the refusal beside it
+-- ---- a post that is to join
 
 module _ (y : YearPosts) (x : Post) where
-  pub joining_refusal : (joining y x).refusal ≡ post_refusal (posts_of y) x
-  unfolding joining
-  joining_refusal = refl
-
   -- refused, the year is as it was
-  pub joining_stays : (post_refusal (posts_of y) x ≡ 0 → ⊥) → (joining y x).year ≡ y
+  pub joining_stays : (post_refusal (posts_of y) x ≡ 0 → ⊥) → joining y x ≡ y
   unfolding joining
   joining_stays n = rw (ne_eqb _ _ n) refl
 
-  pub joining_year : post_refusal (posts_of y) x ≡ 0 → (joining y x).year ≡ joined_by y x
+  pub joining_year : post_refusal (posts_of y) x ≡ 0 → joining y x ≡ joined_by y x
   unfolding joining
   joining_year z = rw (eq-eqb _ _ z) refl
 
-  pub held_joining : Held y → Held (joining y x).year
-  unfolding joining
-  held_joining held = by (eqb (post_refusal (posts_of y) x) 0) refl
-    where
-      by : (t : Bool) → eqb (post_refusal (posts_of y) x) 0 ≡ t → Held (cond t (joined_by y x) y)
-      by true e = held_joined y x held (eqb-true _ 0 e)
-      by false e = held
+-- ---- the tests of a post that would join, as a year has their numbers
 
-  -- as the code makes them
-  pub join_refused : (r : ℕ) → r ≡ post_refusal (posts_of y) x → (r ≡ 0 → ⊥) → ◌≡◌ {A = Changed} (record { year = y; refusal = r }) (joining y x)
-  unfolding joining
-  join_refused r e n = simp (← e, ne_eqb _ _ n)
-
-  pub join_accepted : post_refusal (posts_of y) x ≡ 0 → (r : Changed) → r.year ≡ joined_by y x → r.refusal ≡ 0 → r ≡ joining y x
-  join_accepted z r e f =
-      ap₂ (λ (a : YearPosts) (n : ℕ). record { year = a; refusal = n }) (e ∙ sym (joining_year z)) (f ∙ sym (joining_refusal ∙ z))
-
--- ---- the tests of a post that would join, in their order
-
-module _ (before : List Post) (x : Post) where
-  pub refused_fields : post_stands x ≡ false → 7 ≡ post_refusal before x
-  unfolding post_refusal
-  refused_fields s = rw s refl
-
-  module _ (s : Stands x) where
-    pub refused_many : most_posts ≤ length before → 7 ≡ post_refusal before x
-    unfolding post_refusal
-    refused_many m = rw (s, le-ltb _ _ m) refl
-
-    module _ (m : length before < most_posts) where
-      pub passed_part_time : whole_time x ≡ false → 0 ≡ post_refusal before x
-      unfolding post_refusal
-      passed_part_time t = rw (s, lt-ltb _ _ m, t) refl
-
-      pub refused_second : whole_time x ≡ true → any_whole_time before ≡ true → 8 ≡ post_refusal before x
-      unfolding post_refusal
-      refused_second t u = rw (s, lt-ltb _ _ m, t, u) refl
-
-      pub passed_first : whole_time x ≡ true → any_whole_time before ≡ false → 0 ≡ post_refusal before x
-      unfolding post_refusal
-      passed_first t u = rw (s, lt-ltb _ _ m, t, u) refl
+pub refusal_is : (y : YearPosts) (x : Post) → Held y
+    → post_refusal (posts_of y) x ≡ first_refusal (unless (post_stands x && ltb y.count most_posts) 7) (unless (not (whole_time x && ltb 0 y.wholes)) 8)
+unfolding post_refusal
+refusal_is y x held = rw (posts_count y held, any_whole_time_lem (posts_of y), ← held.wholes) refl
 
 -- ---- the rate of a post in 64 bits, and what the post counts for its parts
 

@@ -39,9 +39,6 @@ ahead_turn x y at i ys = by (ltb i at) refl
         let t : at - (i + 1) ≡ 0 = omega (arith, ltb-false i at e) in
         rw (s, t) refl
 
-pub ahead_start : (x : Post) (at : ℕ) (xs : List Post) → 0 + minutes_ahead x (at - 0) xs ≡ minutes_ahead x at xs
-ahead_start x at xs = omega (arith, ap (λ (k : ℕ). minutes_ahead x k xs) (let e : at - 0 ≡ at = omega arith in e))
-
 pub ahead_none : (x : Post) (k : ℕ) → minutes_ahead x k [] ≡ 0
 unfolding minutes_ahead
 ahead_none x zero = refl

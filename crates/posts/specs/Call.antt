@@ -1,7 +1,6 @@
 -- "Posts apart": the posts of a year in bytes.
 use Rattle.std.specs.Prelude.{ℕ, zero, suc, ◌+◌, ◌*◌, ◌/◌, ◌%◌, List, [], ◌∷◌, eqb, length}
-use Rattle.measures.specs.declared.Answer.{Answer}
-use Rattle.measures.specs.Answers.{answer_with}
+use Rattle.measures.specs.Answers.{Answer, answer_with}
 use Rattle.measures.specs.Refusals.{unless, first_refusal}
 use Rattle.fields.specs.Fields.{two_at, four_at}
 use Rattle.posts.specs.declared.Post.{Post}

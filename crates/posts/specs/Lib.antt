@@ -8,6 +8,8 @@ pub mod Lent
 pub mod Call
 pub mod Rates
 pub mod Paid
+pub mod YearHeld
+pub mod YearFields
 pub mod Year
 pub mod Reached
 pub mod Reading

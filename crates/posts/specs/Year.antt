@@ -5,7 +5,6 @@ use Rattle.measures.specs.declared.Minutes.{Minutes}
 use Rattle.posts.specs.declared.Post.{Post}
 use Rattle.posts.specs.declared.YearPosts.{YearPosts}
 use Rattle.posts.specs.declared.Allocation.{Allocation}
-use Rattle.posts.specs.declared.Changed.{Changed}
 use Rattle.measures.specs.Limits.{most_posts}
 use Rattle.posts.specs.Division.{higher_ranked}
 use Rattle.posts.specs.Posts.{post_of, h, w, contracted_minutes, weighted_parts, claims, whole_time, parts, aggregate_pay, aggregate_way}
@@ -100,9 +99,9 @@ joined_by y x =
       wholes = y.wholes + cond (whole_time x) 1 0;
     }
 
--- a post is to join a year: the year then, and beside it the refusal, 0 for none. Refused, the year is as it was
-unfoldable pub joining : YearPosts → Post → Changed
-joining y x = record { year = cond (eqb (post_refusal (posts_of y) x) 0) (joined_by y x) y; refusal = post_refusal (posts_of y) x }
+-- a post is to join a year: the year then. Refused, it is as it was
+unfoldable pub joining : YearPosts → Post → YearPosts
+joining y x = cond (eqb (post_refusal (posts_of y) x) 0) (joined_by y x) y
 
 -- no parts in any place
 abbrev pub no_parts : List ℕ

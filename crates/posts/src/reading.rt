@@ -1,80 +1,36 @@
-// The posts of a year read one by one, with places lent for their parts, whether they come as bytes or as records.
-ghost use Rattle.std.specs.Prelude.{◌≡◌, ◌++◌, ◌≤◌, length, take, drop};
-ghost use Rattle.measures.specs.Limits.{most_posts};
+// What every reading of a year's posts shares, whether they come as bytes or as records, with places lent for their parts.
+ghost use Rattle.std.specs.Prelude.{◌≡◌, ◌++◌, ◌≤◌, length, drop};
+ghost use Rattle.measures.specs.Refusals.{refused_by};
 ghost use Rattle.posts.specs.Posts.{parts, aggregate_pay};
 ghost use Rattle.posts.specs.Lent.{lengths_refusal};
-ghost use Rattle.posts.specs.Year.{posts_of, Held};
-ghost use Rattle.posts.specs.Reading.{reading_begun, read_on, Finishing, Ended};
+ghost use Rattle.posts.specs.Year.{posts_of};
 
-use super::{Changed, MOST_POSTS, Post, YearPosts};
-use measures::{Answer, Pence};
+use super::{MOST_POSTS, YearPosts};
+use measures::{Pence, Refusal};
 
-// The refusal of so many posts with so many places lent: 21, too many posts; 22, too few places; or 0.
-pub fn lengths_refusal(posts: usize, places: usize) -> u64
-    ensures { result ≡ lengths_refusal posts places }
+// Whether so many posts may come with so many places lent: 21 refuses too many posts, 22 too few places.
+#[tactic(auto, using(measures::proofs::Tests::tests), unfolding(crate::specs::Lent::lengths_refusal))]
+pub fn check_lengths(posts: usize, places: usize) -> Result<(), Refusal>
+    ensures { refused_by result ≡ lengths_refusal posts places }
 {
     if MOST_POSTS < posts {
-        return 21;
+        return Err(Refusal::PostCount);
     }
     if places < posts {
-        return 22;
+        return Err(Refusal::Places);
     }
-    0
+    Ok(())
 }
 
-// Before the first of so many posts: an empty year, with the refusal of the lengths.
-pub fn reading_begun(posts: usize, places: usize) -> Changed
-    ensures { result ≡ reading_begun posts places }
-{
-    let year = YearPosts::none();
-    let refusal = lengths_refusal(posts, places);
-    Changed { year, refusal }
-}
-
-// One post more: it joins unless there is a refusal already.
-pub fn read_on(read: Changed, x: Post) -> Changed
-    requires { Held read.year }
-    ensures { result ≡ read_on read x }
-{
-    if read.refusal == 0 {
-        let year = read.year;
-        return year.join(x);
+impl YearPosts {
+    // The aggregate pay, with each post's parts in the lent places.
+    pub fn allocate_into(&self, places: &mut [u64]) -> Pence
+        requires room { length (posts_of self.now) ≤ length places.old }
+        ensures aggregate { result.0 ≡ aggregate_pay (posts_of self.now) }
+        ensures places { places.new ≡ parts (posts_of self.now) ++ drop (length (posts_of self.now)) places.old }
+    {
+        let allocation = self.allocate();
+        places[..self.count].copy_from_slice(&allocation.parts[..self.count]);
+        allocation.aggregate
     }
-    read
-}
-
-// The first n parts in the first n places.
-fn write_parts(parts: [u64; MOST_POSTS], n: usize, places: &mut [u64])
-    requires { (n ≤ most_posts) × (n ≤ length places.old) }
-    ensures { places.new ≡ take n parts ++ drop n places.old }
-{
-    let mut i: usize = 0;
-    while i < n {
-        places[i] = parts[i];
-        i += 1;
-    }
-}
-
-// The aggregate pay of a year, and each post's parts in the lent places.
-fn allocate_into(year: YearPosts, places: &mut [u64]) -> Pence
-    requires { Held year × (year.count ≤ length places.old) }
-    ensures { (result.0 ≡ aggregate_pay (posts_of year)) × (places.new ≡ parts (posts_of year) ++ drop (length (posts_of year)) places.old) }
-{
-    let n = year.count;
-    let allocation = year.allocate();
-    let parts = allocation.parts;
-    write_parts(parts, n, places);
-    allocation.aggregate
-}
-
-// After the last post: the refusal, or the aggregate pay with each post's parts in the lent places.
-pub fn reading_finished(read: Changed, places: &mut [u64]) -> Answer
-    requires { Finishing read (length places.old) }
-    ensures { Ended read places.old result places.new }
-{
-    if read.refusal != 0 {
-        return Answer::Refused(read.refusal);
-    }
-    let year = read.year;
-    Answer::Amount(allocate_into(year, places))
 }

@@ -1,59 +1,72 @@
 // The posts of a year, held in list order with their ranking: they join at the end and leave by their position.
-ghost use Rattle.std.specs.Prelude.{◌≡◌, cond, ◌*◌, ◌-◌, ◌≤◌, ◌<◌, min, ltb, length};
+ghost use Rattle.std.specs.Prelude.{◌≡◌, cond, ◌*◌, ◌-◌, ◌≤◌, ◌<◌, min, length, get_or};
+ghost use Rattle.std.specs.Result.{result_err};
 ghost use Rattle.measures.specs.Limits.{highest_counted};
-ghost use Rattle.measures.specs.declared.Way.{Way};
+ghost use Rattle.measures.specs.Refusals.{refused_by};
 ghost use Rattle.measures.specs.Rounding.{rounded, way};
-ghost use Rattle.posts.specs.Limits.{heaviest_week, most_minutes};
-ghost use Rattle.posts.specs.Posts.{h, rate_under, counted, whole_time};
-ghost use Rattle.posts.specs.Paid.{either_way};
-ghost use Rattle.posts.specs.Refusals.{Stands, post_stands, post_refusal};
-ghost use Rattle.posts.specs.Year.{no_posts, posts_of, Held, joining, Allocated};
+ghost use Rattle.measures.specs.declared.Way.{Way};
 ghost use Rattle.posts.specs.Changes.{joins, leaves, without};
+ghost use Rattle.posts.specs.Limits.{heaviest_week, most_minutes};
+ghost use Rattle.posts.specs.Paid.{either_way};
+ghost use Rattle.posts.specs.Posts.{h, rate_under, counted, whole_time, parts};
 ghost use Rattle.posts.specs.Reached.{ChangedBy};
+ghost use Rattle.posts.specs.Refusals.{Stands, post_stands, post_refusal};
+ghost use Rattle.posts.specs.Year.{no_post, no_posts, posts_of, Held, joined_by, joining, lowered_by, Allocated};
 
-use super::changes::{lowered, minutes_if, moved_up, position_refusal};
-use super::rates::{goes_before, rate_over, weighted_week};
+use super::changes::{check_position, minutes_if};
+use super::rates::goes_before;
 use super::{Allocation, Changed, LONGEST_WEEK, MOST_POSTS, Post, YearPosts};
 use halves::rounded_product;
-use measures::{HIGHEST_PAY, HIGHEST_SUPPLEMENT, Minutes, Pence, Stepped, Way, in_pence};
+use measures::{HIGHEST_PAY, HIGHEST_SUPPLEMENT, Minutes, Nearest, Pence, Refusal, Way};
 
-// Whether the fields of a post stand (7 otherwise).
-fn stands(x: Post) -> bool
-    ensures { result ≡ post_stands x }
-{
-    if x.contracted.0 < 1 {
-        return false;
+impl Post {
+    // Whether its fields stand (7 otherwise).
+    #[tactic(auto, using(measures::proofs::Tests::tests), unfolding(crate::specs::Refusals::post_stands))]
+    fn stands(self) -> bool
+        ensures { result ≡ post_stands self }
+    {
+        1 <= self.contracted.0
+            && self.contracted <= self.whole
+            && self.whole.0 <= LONGEST_WEEK
+            && self.pay.0 <= HIGHEST_PAY
+            && self.supplement.0 <= HIGHEST_SUPPLEMENT
     }
-    if x.whole.0 < x.contracted.0 {
-        return false;
-    }
-    if LONGEST_WEEK < x.whole.0 {
-        return false;
-    }
-    if HIGHEST_PAY < x.pay.0 {
-        return false;
-    }
-    if HIGHEST_SUPPLEMENT < x.supplement.0 {
-        return false;
-    }
-    true
-}
 
-// Whether a post is whole-time.
-fn is_whole_time(x: Post) -> bool
-    ensures { result ≡ whole_time x }
-{
-    x.contracted.0 == x.whole.0
-}
+    // Whether it is whole-time.
+    fn is_whole_time(self) -> bool
+        ensures { result ≡ whole_time self }
+    {
+        self.contracted == self.whole
+    }
 
-// What a post adds to the number of whole-time posts: 1 or 0.
-fn whole_times(x: Post) -> u64
-    ensures { (result ≡ cond (whole_time x) 1 0) × (result ≤ 1) }
-{
-    if is_whole_time(x) { 1 } else { 0 }
+    // What it adds to the number of whole-time posts: 1 or 0.
+    fn whole_times(self) -> u64
+        ensures { (result ≡ cond (whole_time self) 1 0) × (result ≤ 1) }
+    {
+        u64::from(self.is_whole_time())
+    }
+
+    // What it counts for its parts: pay and supplement for a post in full, nothing without parts, else its minutes times its rate, one
+    // rounded fraction.
+    #[tactic(auto, using(crate::proofs::Standing::standing, crate::proofs::Standing::minutes_within))]
+    fn pay_for(self, part: u64, total: Minutes) -> Nearest<Pence>
+        requires { Stands self × (part ≤ h self * total.0) × (0 < total.0) × (total.0 ≤ most_minutes) }
+        ensures { (result.value.0 ≡ rounded (counted total.0 self part) (rate_under self * total.0)) × (result.way ≡ way (counted total.0 self part) (rate_under self * total.0)) × (result.value.0 ≤ highest_counted) }
+    {
+        let all = in_parts(self.contracted, total);
+        if part == all {
+            return unrounded(Pence(self.pay.0 + self.supplement.0));
+        }
+        if part == 0 {
+            return unrounded(Pence(0));
+        }
+        let under = under_parts(self.weighted_week(), total);
+        rounded_product(self.rate_over(), part, under).in_pence()
+    }
 }
 
 // Minutes as parts, H parts to a minute.
+#[tactic(auto, using(measures::proofs::Products::product))]
 fn in_parts(minutes: Minutes, total: Minutes) -> u64
     requires { (minutes.0 ≤ most_minutes) × (total.0 ≤ most_minutes) }
     ensures { result ≡ minutes.0 * total.0 }
@@ -61,34 +74,8 @@ fn in_parts(minutes: Minutes, total: Minutes) -> u64
     minutes.0 * total.0
 }
 
-// All of a post's parts, or what is left of the limit.
-fn at_most(all: u64, limit: u64, taken: u64) -> u64
-    ensures { result ≡ min all (limit - taken) }
-{
-    if limit <= taken {
-        return 0;
-    }
-    if all <= limit - taken {
-        all
-    } else {
-        limit - taken
-    }
-}
-
-// The parts of a post that so many minutes go before, in a year of H contracted minutes, K and so many whole-time posts: beside a
-// whole-time post that one has all its parts and the others have none.
-fn part_of(x: Post, before: Minutes, total: Minutes, weighted: u64, wholes: u64) -> u64
-    requires { (h x ≤ most_minutes) × (before.0 ≤ most_minutes) × (total.0 ≤ most_minutes) }
-    ensures { result ≡ cond (ltb 0 wholes) (cond (whole_time x) (h x * total.0) 0) (min (h x * total.0) (weighted - before.0 * total.0)) }
-{
-    let all = in_parts(x.contracted, total);
-    if 0 < wholes {
-        return if is_whole_time(x) { all } else { 0 };
-    }
-    at_most(all, weighted, in_parts(before, total))
-}
-
 // What stands below the line of a rate for parts, H to a minute.
+#[tactic(auto, using(measures::proofs::Products::product))]
 fn under_parts(under: u64, total: Minutes) -> u64
     requires { (under ≤ heaviest_week) × (total.0 ≤ most_minutes) }
     ensures { result ≡ under * total.0 }
@@ -97,40 +84,23 @@ fn under_parts(under: u64, total: Minutes) -> u64
 }
 
 // An amount for which nothing was rounded.
-fn unrounded(amount: Pence) -> Stepped
-    ensures { (result.amount.0 ≡ amount.0) × (result.way ≡ Way.Exact) }
+fn unrounded(amount: Pence) -> Nearest<Pence>
+    ensures { (result.value.0 ≡ amount.0) × (result.way ≡ Way.Exact) }
 {
-    Stepped {
-        amount,
+    Nearest {
+        value: amount,
         way: Way::Exact,
     }
 }
 
-// What a post counts for its parts: pay and supplement for a post in full, nothing without parts, else its minutes times its rate, one
-// rounded fraction.
-fn pay_for(x: Post, part: u64, total: Minutes) -> Stepped
-    requires { Stands x × (part ≤ h x * total.0) × (0 < total.0) × (total.0 ≤ most_minutes) }
-    ensures { (result.amount.0 ≡ rounded (counted total.0 x part) (rate_under x * total.0)) × (result.way ≡ way (counted total.0 x part) (rate_under x * total.0)) × (result.amount.0 ≤ highest_counted) }
-{
-    let all = in_parts(x.contracted, total);
-    if part == all {
-        return unrounded(Pence(x.pay.0 + x.supplement.0));
-    }
-    if part == 0 {
-        return unrounded(Pence(0));
-    }
-    let under = under_parts(weighted_week(x.contracted, x.whole), total);
-    in_pence(rounded_product(rate_over(x), part, under))
-}
-
 // Of two roundings of which one at most is not exact, the way of both together.
+#[tactic(auto, unfolding(crate::specs::Paid::either_way))]
 fn either_way(one: Way, other: Way) -> Way
     ensures { result ≡ either_way one other }
 {
     match one {
         Way::Exact => other,
-        Way::Down => Way::Down,
-        Way::Up => Way::Up,
+        Way::Down | Way::Up => one,
     }
 }
 
@@ -146,10 +116,9 @@ impl YearPosts {
             pay: Pence(0),
             supplement: Pence(0),
         };
-        let none = Minutes(0);
         YearPosts {
             list: [empty; MOST_POSTS],
-            ranking: [none; MOST_POSTS],
+            ranking: [Minutes(0); MOST_POSTS],
             count: 0,
             minutes: Minutes(0),
             weighted: 0,
@@ -158,142 +127,156 @@ impl YearPosts {
     }
 
     // How many posts it has.
-    pub fn count(self) -> usize
-        requires { Held self }
-        ensures { result ≡ length (posts_of self) }
+    #[tactic(auto, using(crate::proofs::Standing::posts_count))]
+    pub fn count(&self) -> usize
+        ensures { result ≡ length (posts_of self.now) }
     {
         self.count
     }
 
-    // The refusal of a post after those of the year: 7, then 8, or 0.
-    fn refusal_of(self, x: Post) -> u64
-        requires { Held self }
-        ensures { result ≡ post_refusal (posts_of self) x }
+    // Whether a post may join after those of the year: 7, then 8 refuses it.
+    #[tactic(auto, using(measures::proofs::Tests::tests, crate::proofs::Standing::refusal_is))]
+    fn check(&self, x: Post) -> Result<(), Refusal>
+        ensures year { Held self.now }
+        ensures refusal { refused_by result ≡ post_refusal (posts_of self.now) x }
     {
-        if !stands(x) {
-            return 7;
+        if !x.stands() || MOST_POSTS <= self.count {
+            return Err(Refusal::Post);
         }
-        if MOST_POSTS <= self.count {
-            return 7;
+        if x.is_whole_time() && 0 < self.wholes {
+            return Err(Refusal::SecondWholeTime);
         }
-        if !is_whole_time(x) {
-            return 0;
-        }
-        if 0 < self.wholes {
-            return 8;
-        }
-        0
+        Ok(())
     }
 
-    // Has a post join at the end: 7 and 8 refuse it. It is compared once with each of the others: of two, the minutes of the one that goes
+    // Puts a post that is not refused at the end. It is compared once with each of the others: of two, the minutes of the one that goes
     // first go before the other.
-    pub fn join(mut self, x: Post) -> Changed
-        requires { Held self }
-        ensures year { result ≡ joining self x }
-        ensures change { ChangedBy self (joins x) result }
+    #[tactic(auto, using(crate::proofs::Standing::joins_stands, crate::proofs::Standing::joins_few, crate::proofs::Standing::joins_wholes, crate::proofs::Standing::weighted_few, crate::proofs::Standing::minutes_few, crate::proofs::Standing::minutes_within, crate::proofs::Moving::entering_stands))]
+    fn enter(&mut self, x: Post)
+        requires unrefused { post_refusal (posts_of self.old) x ≡ 0 }
+        ensures { self.new ≡ joined_by self.old x }
     {
-        let refusal = self.refusal_of(x);
-        if refusal != 0 {
-            return Changed {
-                year: self,
-                refusal,
-            };
-        }
         let at = self.count;
-        let mut ranking = self.ranking;
         let mut before = Minutes(0);
-        let mut i: usize = 0;
-        while i < at {
+        for i in 0..at {
             let y = self.list[i];
             let ahead = goes_before(y, false, x);
-            let old = self.ranking[i];
-            ranking[i] = Minutes(old.0 + minutes_if(ahead, x.contracted).0);
+            self.ranking[i].0 += minutes_if(ahead, x.contracted).0;
             before.0 += minutes_if(!ahead, y.contracted).0;
-            i += 1;
         }
-        ranking[at] = before;
+        self.ranking[at] = before;
         self.list[at] = x;
-        self.ranking = ranking;
         self.count = at + 1;
         self.minutes.0 += x.contracted.0;
-        self.weighted += weighted_week(x.contracted, x.whole);
-        self.wholes += whole_times(x);
+        self.weighted += x.weighted_week();
+        self.wholes += x.whole_times();
+    }
+
+    // Has a post join at the end, unless it is refused: the year stays as it was then.
+    #[tactic(auto, using(measures::proofs::Refused::never_nought, crate::proofs::Standing::joining_stays, crate::proofs::Standing::joining_year))]
+    pub fn add(&mut self, x: Post) -> Result<(), Refusal>
+        ensures refusal { refused_by result ≡ post_refusal (posts_of self.old) x }
+        ensures year { self.new ≡ joining self.old x }
+        ensures change { ChangedBy self.old (joins x) (record { year = self.new; refusal = result_err result }) }
+    {
+        self.check(x)?;
+        self.enter(x);
+        Ok(())
+    }
+
+    // Has a post join at the end: 7 and 8 refuse it.
+    pub fn join(mut self, x: Post) -> Changed
+        ensures year { result.year ≡ joining self x }
+        ensures change { ChangedBy self (joins x) result }
+    {
+        let refusal = self.add(x).err();
         Changed {
             year: self,
-            refusal: 0,
+            refusal,
         }
     }
 
-    // The year that the post at a place has left, later ones moving up.
-    fn left(self, at: usize) -> YearPosts
-        requires { Held self × (at < self.count) }
-        ensures { Held result × (posts_of result ≡ without at (posts_of self)) }
+    // The ranking without the minutes of the post at a place, which is about to leave.
+    fn lowered(&self, at: usize) -> [Minutes; MOST_POSTS]
+        requires place { at < self.now.count }
+        ensures { result ≡ lowered_by (get_or self.now.list at no_post) at self.now.ranking (posts_of self.now) }
     {
-        let n = self.count;
+        let mut ranking = self.ranking;
         let x = self.list[at];
-        let all = self.list;
-        let places = moved_up(all, lowered(self, at), at, n);
-        let list = places.list;
-        let ranking = places.ranking;
-        let minutes = Minutes(self.minutes.0 - x.contracted.0);
-        let weighted = self.weighted - weighted_week(x.contracted, x.whole);
-        let wholes = self.wholes - whole_times(x);
-        YearPosts {
-            list,
-            ranking,
-            count: n - 1,
-            minutes,
-            weighted,
-            wholes,
+        for i in 0..self.count {
+            let behind = goes_before(self.list[i], at < i, x);
+            ranking[i].0 -= minutes_if(behind, x.contracted).0;
         }
+        ranking
+    }
+
+    // Takes the post at a place out, later ones moving up.
+    #[tactic(auto, using(crate::proofs::Standing::place_stands))]
+    fn take_out(&mut self, at: usize)
+        requires place { at < self.old.count }
+        ensures { Held self.new × (posts_of self.new ≡ without at (posts_of self.old)) }
+    {
+        self.ranking = self.lowered(at);
+        let x = self.list[at];
+        self.list.copy_within(at + 1..self.count, at);
+        self.ranking.copy_within(at + 1..self.count, at);
+        self.count -= 1;
+        self.minutes.0 -= x.contracted.0;
+        self.weighted -= x.weighted_week();
+        self.wholes -= x.whole_times();
+    }
+
+    // Has the post at a position leave, counted from 1, unless the position holds none: the year stays as it was then.
+    #[tactic(auto, using(crate::proofs::Changing::position_place))]
+    fn remove(&mut self, position: u64) -> Result<(), Refusal>
+        ensures { ChangedBy self.old (leaves position) (record { year = self.new; refusal = result_err result }) }
+    {
+        check_position(self.count, position)?;
+        self.take_out((position - 1) as usize);
+        Ok(())
     }
 
     // Has the post at a position leave, counted from 1, later ones moving up: 29 refuses a position that holds no post.
-    pub fn leave(self, position: u64) -> Changed
-        requires { Held self }
+    pub fn leave(mut self, position: u64) -> Changed
         ensures { ChangedBy self (leaves position) result }
     {
-        let refused = position_refusal(self.count, position);
-        if refused != 0 {
-            return Changed {
-                year: self,
-                refusal: refused,
-            };
+        let refusal = self.remove(position).err();
+        Changed {
+            year: self,
+            refusal,
         }
-        let year = self.left((position - 1) as usize);
-        Changed { year, refusal: 0 }
+    }
+
+    // The parts of the post at a place. Beside a whole-time post that one has all its parts and the others have none.
+    fn part_of(&self, i: usize) -> u64
+        requires place { i < self.now.count }
+        ensures { result ≡ get_or (parts (posts_of self.now)) i 0 }
+    {
+        let total = self.minutes;
+        let all = in_parts(self.list[i].contracted, total);
+        if 0 < self.wholes {
+            return if self.list[i].is_whole_time() { all } else { 0 };
+        }
+        let taken = in_parts(self.ranking[i], total);
+        all.min(self.weighted.saturating_sub(taken))
     }
 
     // The parts of each post, the aggregate pay, and which way that was rounded.
-    pub fn allocate(self) -> Allocation
-        requires { Held self }
-        ensures { Allocated (posts_of self) result }
+    pub fn allocate(&self) -> Allocation
+        ensures { Allocated (posts_of self.now) result }
     {
-        let n = self.count;
-        let total = self.minutes;
-        let mut parts = [0u64; MOST_POSTS];
-        let mut aggregate = Pence(0);
-        let mut way = Way::Exact;
-        let mut i: usize = 0;
-        while i < n {
-            let part = part_of(
-                self.list[i],
-                self.ranking[i],
-                total,
-                self.weighted,
-                self.wholes,
-            );
-            let earned = pay_for(self.list[i], part, total);
-            parts[i] = part;
-            aggregate.0 += earned.amount.0;
-            let went = earned.way;
-            way = either_way(way, went);
-            i += 1;
+        let mut allocation = Allocation {
+            parts: [0; MOST_POSTS],
+            aggregate: Pence(0),
+            way: Way::Exact,
+        };
+        for i in 0..self.count {
+            let part = self.part_of(i);
+            let earned = self.list[i].pay_for(part, self.minutes);
+            allocation.parts[i] = part;
+            allocation.aggregate.0 += earned.value.0;
+            allocation.way = either_way(allocation.way, earned.way);
         }
-        Allocation {
-            parts,
-            aggregate,
-            way,
-        }
+        allocation
     }
 }

@@ -1,47 +1,42 @@
 -- The records call: the records are read one by one, as posts in bytes are.
-use Prim.Native.Nat.{ℕ, ◌+◌, ◌<◌}
-use mathlib.Core.List.{List}
-use mathlib.Core.Path.{◌≡◌}
+use Prim.Native.Nat.{ℕ, suc, ◌+◌, ◌<◌, ◌≤◌}
+use mathlib.Core.List.{List, [], ◌++◌}
+use mathlib.Core.Path.{◌≡◌, sym, ◌∙◌, ap, subst}
 use native.Mathlib.Numerals.{add-one}
-use lib.ListN.{length, take, get_or}
-use lib.Seq.{take-suc, take-length}
-use Rattle.measures.specs.declared.Answer.{Answer}
+use Rattle.std.proofs.Common.{take-append-drop}
+use lib.ListN.{length, take, drop, get_or}
+use lib.Seq.{take-suc, take_all, drop-cons}
+use Rattle.measures.specs.declared.Refusal.{Refusal}
+use Rattle.measures.specs.Answers.{Answer}
+use Rattle.measures.specs.Refusals.{number_of}
 use Rattle.measures.proofs.Answering.{answered}
 use Rattle.posts.specs.declared.Post.{Post}
-use Rattle.posts.specs.declared.Changed.{Changed}
+use Rattle.posts.specs.declared.YearPosts.{YearPosts}
 use Rattle.posts.specs.Posts.{aggregate_pay}
-use Rattle.posts.specs.Lent.{lengths_refusal, lent_refusal}
-use Rattle.posts.specs.Year.{no_post}
-use Rattle.posts.specs.Reading.{reading_begun, read_on, ReadTo, Finishing, Ended}
-use Rattle.posts.proofs.ReadingLaws.{read_none, read_more, read_finishing, read_ended}
+use Rattle.posts.specs.Refusals.{post_refusal, posts_refusal}
+use Rattle.posts.specs.Lent.{lent_refusal}
+use Rattle.posts.specs.Year.{no_post, posts_of, joining}
+use Rattle.posts.specs.Reading.{YearOf}
+use Rattle.posts.proofs.ReadingLaws.{Lent, year_of_more, refused_among}
 use Rattle.records.specs.Records.{records_answer, records_places, RecordsGiven}
 
--- i of the records ys are read, with so many places lent
-abbrev pub RecordsRead : List Post → ℕ → ℕ → Changed → Type 0
-RecordsRead ys places i s = ReadTo (lengths_refusal (length ys) places) (take i ys) s
+-- the record of a number is read, after those before it
+module _ (ys : List Post) (i : ℕ) (y : YearPosts) (g : i < length ys) (so : YearOf (take i ys) y) where
+  pub one_refused : (r : Refusal) → number_of r ≡ post_refusal (posts_of y) (get_or ys i no_post) → number_of r ≡ posts_refusal [] ys
+  one_refused r e =
+      refused_among (take i ys) y so (get_or ys i no_post) (drop (suc i) ys) r e
+      ∙ ap (posts_refusal []) (ap (λ (l : List Post). take i ys ++ l) (sym (drop-cons ys i no_post g)) ∙ take-append-drop i ys)
 
-module _ (ys : List Post) (places : ℕ) where
-  pub records_start : (r : Changed) → r ≡ reading_begun (length ys) places → RecordsRead ys places 0 r
-  unfolding reading_begun
-  records_start r e = rw e (read_none (lengths_refusal (length ys) places))
+  pub one_more : 0 ≡ post_refusal (posts_of y) (get_or ys i no_post) → (z : YearPosts) → z ≡ joining y (get_or ys i no_post) → YearOf (take (i + 1) ys) z
+  one_more e z f = rw (add-one, take-suc ys i no_post g) (year_of_more (take i ys) y so (get_or ys i no_post) e z f)
 
-  -- one record more of the list
-  pub records_turn : (i : ℕ) (s r : Changed) → i < length ys → RecordsRead ys places i s → r ≡ read_on s (get_or ys i no_post) → RecordsRead ys places (i + 1) r
-  records_turn i s r g so e =
-      rw (e, add-one, take-suc ys i no_post g) (read_more (lengths_refusal (length ys) places) (take i ys) s so (get_or ys i no_post))
+-- after the last record the year is of them all
+pub all_read : (ys : List Post) (i : ℕ) (y : YearPosts) → length ys ≤ i → YearOf (take i ys) y → YearOf ys y
+all_read ys i y g so = subst (λ (xs : List Post). YearOf xs y) (take_all i ys g) so
 
--- the end, at the places zs
-module _ (ys : List Post) (zs : List ℕ) (s : Changed) (so : RecordsRead ys (length zs) (length ys) s) where
-  all : ReadTo (lengths_refusal (length ys) (length zs)) ys s
-  all = rw take-length at so
-
-  pub records_finishing : Finishing s (length zs)
-  records_finishing = read_finishing ys zs s all
-
-  -- the answer and the places after the last record are what the call promises
-  pub records_given : (r : Answer) (after : List ℕ) → Ended s zs r after → RecordsGiven ys zs r after
-  unfolding records_answer records_places
-  records_given r after e =
-      let ended = read_ended ys zs s all r after e in
-      let a = answered (lent_refusal ys (length zs)) (aggregate_pay ys) r ended.0 in
-      record { answer = a.0; refusal = a.1.0; number = a.1.1; places = ended.1 }
+-- the answer and the places after the last record are what the call promises
+pub records_given : (ys : List Post) (zs : List ℕ) (a : Answer) (after : List ℕ) → Lent ys zs a after → RecordsGiven ys zs a after
+unfolding records_answer records_places
+records_given ys zs a after e =
+    let t = answered (lent_refusal ys (length zs)) (aggregate_pay ys) a e.0 in
+    record { answer = t.0; refusal = t.1.0; number = t.1.1; places = e.1 }

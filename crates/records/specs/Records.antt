@@ -1,7 +1,6 @@
 -- "The posts of one year may also be lent as a list of records": the call on them. "As records: 21, 22, 7, 8."
 use Rattle.std.specs.Prelude.{ℕ, ◌≡◌, List, length}
-use Rattle.measures.specs.declared.Answer.{Answer}
-use Rattle.measures.specs.Answers.{answer_amount, answer_refusal, answer_with, number_unless}
+use Rattle.measures.specs.Answers.{Answer, answer_amount, answer_refusal, answer_with, number_unless}
 use Rattle.posts.specs.declared.Post.{Post}
 use Rattle.posts.specs.Posts.{aggregate_pay}
 use Rattle.posts.specs.Lent.{lent_refusal, places_unless}

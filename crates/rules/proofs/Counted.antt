@@ -13,7 +13,7 @@ use Rattle.benefits.specs.Steps.{after_year, final_pay, section_pension_way}
 use Rattle.benefits.proofs.Counts.{after_year_ups_most, charge_ups_most}
 use Rattle.averages.specs.Averages.{average_pay, average_way, pension2008_way}
 use Rattle.rules.specs.declared.Amounts.{Amounts}
-use Rattle.rules.specs.declared.Outcome.{Outcome}
+use Rattle.std.specs.Prelude.{Ok}
 use Rattle.rules.specs.Rules.{WorkedYear, SectionPay, of1995, of2008, Frames, begun, most_years, has_section}
 use Rattle.rules.specs.Working.{year_ups, ups_from, section_ups, reduction2015, reduction1995, reduction_lump_sum, reduction_ups, debit_for, debit_way, debit_ups, charge_ups_of, ups_of, amounts_of, answer_of}
 use Rattle.rules.proofs.Largest.{answered}
@@ -55,6 +55,6 @@ unfolding ups_of
 ups_most k few = omega (arith, ups_from_most 0 k.years, pay_most k.pay, reduction_ups_most k, debit_ups_most k)
 
 -- of the amounts given
-pub worked_ups : (k : Frames) (a : Amounts) → length k.years ≤ most_years → answer_of (begun k) ≡ Outcome.Worked a → a.ups ≤ most_ups
+pub worked_ups : (k : Frames) (a : Amounts) → length k.years ≤ most_years → answer_of (begun k) ≡ Ok a → a.ups ≤ most_ups
 unfolding amounts_of
 worked_ups k a few e = subst (λ (b : Amounts). b.ups ≤ most_ups) (answered k a e).is (ups_most k few)

@@ -1,5 +1,6 @@
 -- The printed case of document 01 with the byte that request 2.5 adds, by computation: its frames come to 66,667 pence of 2015 pension, one rounding
--- of which went up (the 54th of 3,600,000 is 66,666 2/3), so that nothing above is empty. Beside it a case of the 2008 Section, and what each step adds to the count.
+-- of which went up (the 54th of 3,600,000 is 66,666 2/3), so that nothing above is empty.
+-- Beside it a case of the 2008 Section, and what each step adds to the count.
 use Prim.Native.Nat.{ℕ}
 use mathlib.Core.Path.{◌≡◌, refl}
 use mathlib.Core.List.{List, [], ◌∷◌}
@@ -19,8 +20,8 @@ use Rattle.averages.specs.declared.TenPays.{TenPays}
 use Rattle.averages.specs.Averages.{threes, better, best_of, best_three, average, average_pay, average_way, pension2008, pension2008_way, ten_pays_refusal}
 use Rattle.frames.specs.Frames.{date_at, member_in, year_in, final_pay_in, factor_in, debit_in, ten_pays_in, frame_length, frame_of, decoded}
 use Rattle.frames.specs.Limits.{member_refusal, year_stands, scheme_stands, has_lump_sum, factor_refusal, debit_refusal}
-use Rattle.rules.specs.declared.Outcome.{Outcome}
-use Rattle.rules.specs.declared.Refusal.{Refusal}
+use Rattle.std.specs.Prelude.{Ok, Err}
+use Rattle.rules.specs.Outcomes.{NumberedLine}
 use Rattle.rules.specs.Rules.{WorkedYear, of1995, of2008, last_of, before_pay, has_section, in_section, in_order, is_next, year_refusal, open_posts, after_factor, after_debit, fields_refusal, refusal_of, add_post, keep, refusal_of_decoded, keep_decoded, decoded_all, kept}
 use Rattle.rules.specs.Working.{early, pension_from, pension_of, own_pay, pension1995, factor_for, reduced_if, gross2015, gross1995, gross_lump_sum, debit_for, debit_of, debit2015, debit1995, debit_lump_sum, charge_of, year_ups, ups_from, section_ups, reduced_if_way, reduction2015, reduction1995, reduction_lump_sum, reduction_ups, debit_way, debit_ups, charge_ups_of, ups_of, pay_there, factors_there, debits_fit, closing_of, amounts_of, worked_unless, answer_of, amounts_given}
 
@@ -32,7 +33,7 @@ printed =
     ∷ (3 ∷ 3 ∷ 132 ∷ 8 ∷ 202 ∷ 0 ∷ 18 ∷ 79 ∷ 128 ∷ 0 ∷ 0 ∷ 0 ∷ 0 ∷ [])
     ∷ []
 
-pub printed_case : answer_of (kept (decoded_all printed)) ≡ Outcome.Worked (record { net_2015 = record { 0 = 66667 }; net_1995 = record { 0 = 0 }; net_lump_sum = record { 0 = 0 }; charge = record { 0 = 0 }; ups = 1 })
+pub printed_case : answer_of (kept (decoded_all printed)) ≡ Ok (record { net_2015 = record { 0 = 66667 }; net_1995 = record { 0 = 0 }; net_lump_sum = record { 0 = 0 }; charge = record { 0 = 0 }; ups = 1 })
 unfolding rounded way upward tried after one_at two_at four_at is_leap month_length completing_day completed_months months_early date_stands is_before dates_refusal counted counted_together aggregate_pay aggregate_way post_stands post_refusal post_at revalued revalued_way accrued accrued_way after_year after_year_ups lump_debit date_at member_in year_in frame_length frame_of decoded member_refusal year_stands last_of before_pay has_section in_section in_order is_next year_refusal open_posts fields_refusal refusal_of add_post keep refusal_of_decoded keep_decoded kept early pension_from pension_of own_pay pension1995 factor_for reduced_if gross2015 gross1995 gross_lump_sum debit_for debit_of debit2015 debit1995 debit_lump_sum charge_of year_ups ups_from section_ups reduced_if_way reduction2015 reduction1995 reduction_lump_sum reduction_ups debit_way debit_ups charge_ups_of ups_of pay_there factors_there debits_fit closing_of amounts_of worked_unless answer_of
 printed_case = refl
 
@@ -46,12 +47,12 @@ supplements =
     ∷ (3 ∷ 3 ∷ 192 ∷ 9 ∷ 96 ∷ 0 ∷ 48 ∷ 212 ∷ 0 ∷ 0 ∷ 6 ∷ 26 ∷ 128 ∷ [])
     ∷ []
 
-pub supplement_case : answer_of (kept (decoded_all supplements)) ≡ Outcome.Worked (record { net_2015 = record { 0 = 112173 }; net_1995 = record { 0 = 0 }; net_lump_sum = record { 0 = 0 }; charge = record { 0 = 0 }; ups = 1 })
+pub supplement_case : answer_of (kept (decoded_all supplements)) ≡ Ok (record { net_2015 = record { 0 = 112173 }; net_1995 = record { 0 = 0 }; net_lump_sum = record { 0 = 0 }; charge = record { 0 = 0 }; ups = 1 })
 unfolding rounded way upward tried after one_at two_at four_at is_leap month_length completing_day completed_months months_early date_stands is_before dates_refusal counted counted_together aggregate_pay aggregate_way post_stands post_refusal post_at revalued revalued_way accrued accrued_way after_year after_year_ups lump_debit date_at member_in year_in frame_length frame_of decoded member_refusal year_stands last_of before_pay has_section in_section in_order is_next year_refusal open_posts fields_refusal refusal_of add_post keep refusal_of_decoded keep_decoded kept early pension_from pension_of own_pay pension1995 factor_for reduced_if gross2015 gross1995 gross_lump_sum debit_for debit_of debit2015 debit1995 debit_lump_sum charge_of year_ups ups_from section_ups reduced_if_way reduction2015 reduction1995 reduction_lump_sum reduction_ups debit_way debit_ups charge_ups_of ups_of pay_there factors_there debits_fit closing_of amounts_of worked_unless answer_of
 supplement_case = refl
 
--- Request 2.4: born on 1 April 1970, out at 63 in the 2008 Section, 48 months early in the 2015 Scheme and 24 months early to 65. The best three years
--- average 4,100,000; × 7,300/21,900 is 1,366,667 (up); × 0.800 is 1,093,334 (up); less a debit of 49,505 (up).
+-- Request 2.4: born on 1 April 1970, out at 63 in the 2008 Section, 48 months early in the 2015 Scheme and 24 months early to 65. The best three
+-- years average 4,100,000; × 7,300/21,900 is 1,366,667 (up); × 0.800 is 1,093,334 (up); less a debit of 49,505 (up).
 abbrev pub ten_pays_case : List (List ℕ)
 ten_pays_case =
     (1 ∷ 7 ∷ 178 ∷ 4 ∷ 1 ∷ 7 ∷ 241 ∷ 4 ∷ 1 ∷ 2 ∷ 67 ∷ 65 ∷ [])
@@ -62,7 +63,7 @@ ten_pays_case =
     ∷ (6 ∷ 1 ∷ 0 ∷ 15 ∷ 66 ∷ 64 ∷ 7 ∷ 228 ∷ [])
     ∷ []
 
-pub ten_pays_case_lem : answer_of (kept (decoded_all ten_pays_case)) ≡ Outcome.Worked (record { net_2015 = record { 0 = 0 }; net_1995 = record { 0 = 1043829 }; net_lump_sum = record { 0 = 0 }; charge = record { 0 = 0 }; ups = 3 })
+pub ten_pays_case_lem : answer_of (kept (decoded_all ten_pays_case)) ≡ Ok (record { net_2015 = record { 0 = 0 }; net_1995 = record { 0 = 1043829 }; net_lump_sum = record { 0 = 0 }; charge = record { 0 = 0 }; ups = 3 })
 unfolding rounded way upward tried after one_at two_at four_at is_leap month_length completing_day completed_months months_early date_stands is_before dates_refusal reduced reduced_way pension_debit pension_debit_way lump_debit threes better best_of best_three average average_pay average_way pension2008 pension2008_way ten_pays_refusal date_at member_in ten_pays_in factor_in debit_in frame_length frame_of decoded member_refusal scheme_stands has_lump_sum factor_refusal debit_refusal last_of before_pay has_section in_section in_order after_factor after_debit fields_refusal refusal_of keep refusal_of_decoded keep_decoded kept early pension_from pension_of own_pay pension1995 factor_for reduced_if gross2015 gross1995 gross_lump_sum debit_for debit_of debit2015 debit1995 debit_lump_sum charge_of year_ups ups_from section_ups reduced_if_way reduction2015 reduction1995 reduction_lump_sum reduction_ups debit_way debit_ups charge_ups_of ups_of pay_there factors_there debits_fit closing_of amounts_of worked_unless answer_of
 ten_pays_case_lem = refl
 
@@ -102,7 +103,8 @@ last_pays pay4 pay3 pay2 pay1 =
     }
 
 -- A case in which every step goes up that can: the 54th of 135, 3 × 1.1667 and an aggregate of 3.5; the 1995 pension of 1.5; reductions to 3.6, 1.8
--- and 5.7; both debits of 100/199; allowed years 3 and 1 of 1.5, the excess pension of a half, its product of 1.5. Allowed year 2 is exact, 4/54 goes down.
+-- and 5.7; both debits of 100/199; allowed years 3 and 1 of 1.5, the excess pension of a half, its product of 1.5.
+-- Allowed year 2 is exact, 4/54 goes down.
 abbrev pub every_step : List (List ℕ)
 every_step =
     (1 ∷ 7 ∷ 178 ∷ 4 ∷ 1 ∷ 7 ∷ 233 ∷ 4 ∷ 1 ∷ 1 ∷ 67 ∷ 60 ∷ [])
@@ -118,12 +120,12 @@ every_step =
     ∷ (6 ∷ 1 ∷ 0 ∷ 0 ∷ 0 ∷ 1 ∷ 0 ∷ 199 ∷ [])
     ∷ []
 
-pub every_step_case : answer_of (kept (decoded_all every_step)) ≡ Outcome.Worked (record { net_2015 = record { 0 = 3 }; net_1995 = record { 0 = 1 }; net_lump_sum = record { 0 = 3 }; charge = record { 0 = 5 }; ups = 13 })
+pub every_step_case : answer_of (kept (decoded_all every_step)) ≡ Ok (record { net_2015 = record { 0 = 3 }; net_1995 = record { 0 = 1 }; net_lump_sum = record { 0 = 3 }; charge = record { 0 = 5 }; ups = 13 })
 unfolding rounded way upward tried after one_at two_at four_at is_leap month_length completing_day completed_months months_early date_stands is_before dates_refusal counted counted_together aggregate_pay aggregate_way post_stands post_refusal post_at revalued revalued_way accrued accrued_way after_year after_year_ups final_pay final_year section_pension section_pension_way lump_sum reduced reduced_way pension_debit pension_debit_way lump_debit controlled raised raised_way allowed_from allowed_from_way allowed3 allowed3_way allowed2 allowed2_way allowed1 allowed1_way allowed_in allowed_ups excess excess_pension excess_pension_way charge_from charge_product_way charge_from_ups charge charge_ups pays_within terms_within final_pay_refusal date_at member_in year_in final_pay_in factor_in debit_in frame_length frame_of decoded member_refusal year_stands scheme_stands has_lump_sum factor_refusal debit_refusal last_of before_pay has_section in_section in_order is_next year_refusal open_posts after_factor after_debit fields_refusal refusal_of add_post keep refusal_of_decoded keep_decoded kept early pension_from pension_of own_pay pension1995 factor_for reduced_if gross2015 gross1995 gross_lump_sum debit_for debit_of debit2015 debit1995 debit_lump_sum charge_of year_ups ups_from section_ups reduced_if_way reduction2015 reduction1995 reduction_lump_sum reduction_ups debit_way debit_ups charge_ups_of ups_of pay_there factors_there debits_fit closing_of amounts_of worked_unless answer_of
 every_step_case = refl
 
 -- "nought for a refused one"
-pub refused_count : (r : Refusal) → (amounts_given (Outcome.Refused r)).ups ≡ 0
+pub refused_count : (r : NumberedLine) → (amounts_given (Err r)).ups ≡ 0
 unfolding amounts_given
 refused_count r = refl
 

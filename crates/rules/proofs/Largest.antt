@@ -24,7 +24,8 @@ use Rattle.averages.specs.declared.Three.{Three}
 use Rattle.averages.specs.Averages.{threes, three, better, best_of, best_three, average, average_pay}
 use Rattle.averages.proofs.Best.{AllAtMost, average_most, pension2008_mono}
 use Rattle.rules.specs.declared.Amounts.{Amounts}
-use Rattle.rules.specs.declared.Outcome.{Outcome}
+use Rattle.std.specs.Prelude.{Ok, Err}
+use Rattle.rules.specs.Outcomes.{Outcome}
 use Rattle.rules.specs.Rules.{WorkedYear, SectionPay, of1995, of2008, Frames, begun, has_section, in_section}
 use Rattle.rules.specs.Working.{early2015, early1995, pension_from, pension_of, own_aggregates, own_parts, rival_aggregates, candidates, own_pay, pension1995, pension_factor, lump_factor, reduced_if, factor2015, factor1995, gross2015, gross1995, gross_lump_sum, debit2015, debit1995, debit_lump_sum, pay_there, factors_there, debits_fit, closing_of, amounts_of, worked_unless, answer_of}
 use Rattle.rules.specs.Rivals.{Choice, RivalParts, no_years, year, Picked, none as noPick, here, later, Allowed, net2015, net1995, net_lump_sum, Given, AtMost, LargestOf}
@@ -126,11 +127,11 @@ pub record Answered (k : Frames) (a : Amounts) : Type 0 where
   pub unrefused : closing_of (begun k) ≡ 0
   pub is : amounts_of k ≡ a
 
-pub answered : (k : Frames) (a : Amounts) → answer_of (begun k) ≡ Outcome.Worked a → Answered k a
+pub answered : (k : Frames) (a : Amounts) → answer_of (begun k) ≡ Ok a → Answered k a
 unfolding answer_of worked_unless
 answered k a e = by (eqb (closing_of (begun k)) 0) refl e
   where
-    by : (t : Bool) → eqb (closing_of (begun k)) 0 ≡ t → cond t (Outcome.Worked (amounts_of k)) (Outcome.Refused (record { number = closing_of (begun k); line = 0 })) ≡ Outcome.Worked a → Answered k a
+    by : (t : Bool) → eqb (closing_of (begun k)) 0 ≡ t → cond {A = Outcome} t (Ok (amounts_of k)) (Err (record { number = closing_of (begun k); line = 0 })) ≡ Ok a → Answered k a
     by true q e = record { unrefused = eqb-true _ 0 q; is = cc }
     by false q e = clash (cc)
 
@@ -166,7 +167,7 @@ module _ (k : Frames) (w : All WorkedPosts k.years) (f : Covered k) where
       pays : choice.pay ≤ own_pay k.pay
       pays = pay_most k.pay choice.pay r.pay
 
-pub largest_kept : (k : Frames) (a : Amounts) → All WorkedPosts k.years → answer_of (begun k) ≡ Outcome.Worked a → LargestOf k a
+pub largest_kept : (k : Frames) (a : Amounts) → All WorkedPosts k.years → answer_of (begun k) ≡ Ok a → LargestOf k a
 largest_kept k a w e =
     let g = answered k a e in
     let f = covered k g.unrefused in

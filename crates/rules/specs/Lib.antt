@@ -1,4 +1,5 @@
 pub mod Rules
+pub mod Outcomes
 pub mod Working
 pub mod Plain
 pub mod Rivals

@@ -30,7 +30,8 @@ pub record Allowed (k : Frames) (choice : Choice) : Type 0 where
 abbrev pub own_choice : Frames → Choice
 own_choice k = record { parts = own_parts k.years; pay = own_pay k.pay }
 
--- Its net 2015 pension: "Then it goes through the same steps with its own parts and final pay, [..] the factors and debits the same; a net below zero stays so."
+-- Its net 2015 pension: "Then it goes through the same steps with its own parts and final pay, [..] the factors and debits the same;
+-- a net below zero stays so."
 unfoldable pub net2015 : Frames → Choice → ℤ
 net2015 k choice = pos (gross2015 k (rival_aggregates k.years choice.parts)) -ℤ pos (debit2015 k)
 

@@ -1,5 +1,5 @@
 -- The frames kept, and when a next frame is refused after them: "Order", "When each part declines", the running case.
-use Rattle.std.specs.Prelude.{ℕ, ◌+◌, Bool, true, false, ◌&&◌, ◌||◌, not, List, [], ◌∷◌, ◌++◌, ltb, eqb, length}
+use Rattle.std.specs.Prelude.{ℕ, ◌+◌, Bool, true, false, ◌&&◌, ◌||◌, not, List, [], ◌∷◌, ◌++◌, ltb, eqb, length, Ok, Err}
 use Rattle.std.proofs.Math.Option.{Option, none, some}
 use Rattle.measures.specs.Refusals.{unless, first_refusal}
 use Rattle.measures.specs.Tries.{tried, after, meant}
@@ -14,8 +14,7 @@ use Rattle.frames.specs.declared.Year.{Year}
 use Rattle.frames.specs.declared.Factor.{Factor}
 use Rattle.frames.specs.declared.Debit.{Debit}
 use Rattle.frames.specs.declared.Frame.{Frame}
-use Rattle.frames.specs.declared.Decoded.{Decoded}
-use Rattle.frames.specs.Frames.{decoded}
+use Rattle.frames.specs.Frames.{Decoded, decoded}
 use Rattle.frames.specs.Limits.{member_refusal, year_stands, is_section, factor_refusal, debit_refusal}
 
 -- ---- the frames kept
@@ -202,13 +201,13 @@ keep (begun k) (Frame.TenPays t) = begun (with_ten_pays k t)
 
 -- "A frame is tried for 3, 4, fields": bytes that are no frame have their refusal already
 unfoldable pub refusal_of_decoded : Kept → Decoded → ℕ
-refusal_of_decoded k (Decoded.Frame f) = refusal_of k f
-refusal_of_decoded k (Decoded.Refused number) = number
+refusal_of_decoded k (Ok f) = refusal_of k f
+refusal_of_decoded k (Err number) = number
 
 -- nothing is kept of bytes that are no frame
 unfoldable pub keep_decoded : Kept → Decoded → Kept
-keep_decoded k (Decoded.Frame f) = keep k f
-keep_decoded k (Decoded.Refused number) = k
+keep_decoded k (Ok f) = keep k f
+keep_decoded k (Err number) = k
 
 -- raw frames decoded, each by itself
 abbrev pub decoded_all : List (List ℕ) → List Decoded

@@ -1,5 +1,5 @@
 -- "Steps" over the frames kept: one working, ours and a rival's, from the parts and the final pay that it picks.
-use Rattle.std.specs.Prelude.{ℕ, ◌+◌, ◌-◌, Bool, ◌&&◌, ◌||◌, not, cond, List, [], ◌∷◌, leb, eqb, ℤ, pos, negsuc}
+use Rattle.std.specs.Prelude.{ℕ, ◌+◌, ◌-◌, Bool, ◌&&◌, ◌||◌, not, cond, List, [], ◌∷◌, leb, eqb, ℤ, pos, negsuc, Ok, Err}
 use Rattle.std.proofs.Math.Option.{Option, none, some}
 use Rattle.measures.specs.Refusals.{unless, first_refusal}
 use Rattle.measures.specs.Rounding.{upward}
@@ -12,7 +12,7 @@ use Rattle.frames.specs.declared.Member.{Member}
 use Rattle.frames.specs.declared.Factor.{Factor}
 use Rattle.frames.specs.declared.Debit.{Debit}
 use Rattle.rules.specs.declared.Amounts.{Amounts}
-use Rattle.rules.specs.declared.Outcome.{Outcome}
+use Rattle.rules.specs.Outcomes.{Outcome}
 use Rattle.rules.specs.Rules.{WorkedYear, SectionPay, of1995, of2008, Frames, Kept, nothing, begun, given, has_section, in_section}
 
 -- ---- Months early
@@ -272,27 +272,27 @@ amounts_of k =
 
 -- the worked case, or the refusal: "At the end, line 0"
 unfoldable pub worked_unless : ℕ → Amounts → Outcome
-worked_unless refusal amounts = cond (eqb refusal 0) (Outcome.Worked amounts) (Outcome.Refused (record { number = refusal; line = 0 }))
+worked_unless refusal amounts = cond (eqb refusal 0) (Ok amounts) (Err (record { number = refusal; line = 0 }))
 
 -- what the frames kept come to
 unfoldable pub answer_of : Kept → Outcome
-answer_of nothing = Outcome.Refused (record { number = 4; line = 0 })
+answer_of nothing = Err (record { number = 4; line = 0 })
 answer_of (begun k) = worked_unless (closing_of (begun k)) (amounts_of k)
 
 -- ---- An outcome in the numbers of the paper
 
 -- the refusal, 0 for none
 unfoldable pub number_of : Outcome → ℕ
-number_of (Outcome.Worked amounts) = 0
-number_of (Outcome.Refused refusal) = refusal.number
+number_of (Ok amounts) = 0
+number_of (Err refusal) = refusal.number
 
 -- its line, "0 for no line"
 unfoldable pub line_of : Outcome → ℕ
-line_of (Outcome.Worked amounts) = 0
-line_of (Outcome.Refused refusal) = refusal.line
+line_of (Ok amounts) = 0
+line_of (Err refusal) = refusal.line
 
 -- the amounts; refused, "All amounts 0.", and a count that is "nought for a refused one"
 unfoldable pub amounts_given : Outcome → Amounts
-amounts_given (Outcome.Worked amounts) = amounts
-amounts_given (Outcome.Refused refusal) =
+amounts_given (Ok amounts) = amounts
+amounts_given (Err refusal) =
     record { net_2015 = record { 0 = 0 }; net_1995 = record { 0 = 0 }; net_lump_sum = record { 0 = 0 }; charge = record { 0 = 0 }; ups = 0 }

@@ -1,7 +1,7 @@
 // The papers' rules over the frames kept of one member, and what a case comes to.
 #![tactic(auto)]
 
-use measures::Pence;
+use measures::{Pence, Refusal};
 
 // The amounts of a worked case, and how many of the roundings on the way to them went up.
 #[derive(Clone, Copy)]
@@ -23,16 +23,9 @@ pub struct SchemeAmounts {
     pub ups: u64,
 }
 
-// A refusal: its number, and the line of a text, 0 for no line.
+// The refusal of a case, and the line of a text where it stands, 0 for no line.
 #[derive(Clone, Copy)]
-pub struct Refusal {
-    pub number: u64,
+pub struct RefusalAt {
+    pub refusal: Refusal,
     pub line: u64,
-}
-
-// What a case comes to.
-#[derive(Clone, Copy)]
-pub enum Outcome {
-    Worked(Amounts),
-    Refused(Refusal),
 }

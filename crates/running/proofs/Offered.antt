@@ -1,22 +1,24 @@
 -- Frames offered one after the other, and the case after a line.
-use Prim.Native.Nat.{ℕ, ◌+◌, ◌-◌, ◌≤◌, ◌<◌}
+use Rattle.std.specs.List.{slice_split, onto_first}
+use Rattle.std.proofs.lemmas.List.{map_push}
+use native.Mathlib.Numerals.{add-one}
+use Prim.Native.Nat.{ℕ, ◌+◌, ◌-◌, ◌<◌}
 use mathlib.Core.List.{List, [], ◌∷◌, ◌++◌, map, append_assoc, append-nil}
 use mathlib.Core.Path.{◌≡◌, refl, sym, ap, ◌∙◌}
-use mathlib.Core.Bool.{cond}
+use mathlib.Core.Bool.{Bool, true, false, cond}
 use native.Mathlib.Omega.{arith}
 use lib.Dec.{eqb}
 use lib.ListN.{length, get_or, take, drop, length-drop}
-use lib.Seq.{append_snoc, take_all}
+use lib.Seq.{take-suc, take_all}
 use borrow.Author.Tests.{eq-eqb, ne_eqb}
-use Rattle.frames.specs.declared.Decoded.{Decoded}
-use Rattle.frames.specs.Frames.{decoded}
+use Rattle.frames.specs.Frames.{Decoded, decoded}
 use Rattle.cases.specs.declared.Case.{Case}
 use Rattle.cases.specs.declared.Taken.{Taken}
 use Rattle.cases.specs.State.{after_all}
 use Rattle.cases.specs.Running.{IsCase, TakenFrom}
-use Rattle.input.specs.Script.{EndAt, PutIn, bytes_spelled, words_of, from_mark}
+use Rattle.input.specs.Script.{EndAt, PutIn, bytes_spelled, before, parted_words, words_of, from_mark}
 use Rattle.input.proofs.Putting.{put_start}
-use Rattle.input.proofs.Words.{next_word, no_word, from_mark_lem}
+use Rattle.input.proofs.Words.{from_mark_lem}
 use Rattle.running.specs.Offered.{buffer_bytes, frame_of_word, with_words, with_word, after_line, HandedOn}
 
 -- one word is offered
@@ -27,45 +29,68 @@ handed_one word {bytes = bytes} n p room t =
     put_start p ∙ ap (λ (k : ℕ). take k (bytes_spelled word)) (sym room) in
     record { is_case = t.is_case; after = λ frames e. rw (← same) (t.after frames e).case }
 
--- the frames of the words before a place are offered
-pub record Offering (case : Case) (words : List ℕ) (at : ℕ) (r : Case) : Type 0 where
-  pub done : List Decoded
-  pub whole : map frame_of_word (words_of words) ≡ done ++ map frame_of_word (words_of (drop at words))
+-- the words that blanks part
+abbrev pub split_words : List ℕ → List (List ℕ)
+split_words text = slice_split (λ x. eqb x 32) text
+
+-- what stands after the first byte
+pub after_first : (text : List ℕ) → take (length text - 1) (drop 1 text) ≡ drop 1 text
+after_first text = take_all (length text - 1) (drop 1 text) (simp length-drop (omega arith))
+
+split_on : (blank : Bool) (x : ℕ) (words : List (List ℕ)) → cond blank ([] ∷ words) (onto_first x words) ≡ before blank x words
+unfolding before
+split_on true x words = refl
+split_on false x [] = refl
+split_on false x (word ∷ words) = refl
+
+split_parted : (text : List ℕ) → split_words text ≡ parted_words text
+unfolding parted_words
+split_parted [] = refl
+split_parted (x ∷ more) = split_on (eqb x 32) x (split_words more) ∙ ap (λ (ws : List (List ℕ)). before (eqb x 32) x ws) (split_parted more)
+
+-- they are those of a text after its first byte
+pub words_split : (text : List ℕ) → 0 < length text → split_words (drop 1 text) ≡ words_of text
+unfolding words_of
+words_split [] l = absurd (omega arith)
+words_split (x ∷ more) l = split_parted more
+
+-- the frames of the first n words are offered
+pub record Offering (case : Case) (words : List (List ℕ)) (n : ℕ) (r : Case) : Type 0 where
   pub is_case : IsCase r
-  pub after : (frames : List Decoded) → case ≡ after_all frames → r ≡ after_all (frames ++ done)
+  pub after : (frames : List Decoded) → case ≡ after_all frames → r ≡ after_all (frames ++ map frame_of_word (take n words))
 
--- before the first word
-pub offered_none : (c : Case) (words : List ℕ) → IsCase c → Offering c words 0 c
-offered_none c words is =
-    record { done = []; whole = refl; is_case = is; after = λ frames e. rw append-nil e }
-
-module _ {case r : Case} {words : List ℕ} {at : ℕ} (o : Offering case words at r) where
+module _ {case r : Case} {words : List (List ℕ)} {n : ℕ} (o : Offering case words n r) where
   -- one word more
-  pub offered_more : {next : Case} (end : ℕ) → at < length words → EndAt words (at + 1) 32 end → HandedOn r (with_word (take (end - (at + 1)) (drop (at + 1) words))) next → Offering case words end next
+  pub offered_more : {next : Case} (word : List ℕ) → (n < length words) × (word ≡ get_or words n word) → HandedOn r (with_word word) next → Offering case words (n + 1) next
   unfolding with_word
-  offered_more end l e h =
-      let word : Decoded = frame_of_word (take (end - (at + 1)) (drop (at + 1) words)) in
+  offered_more word at h =
+      let more : map frame_of_word (take (n + 1) words) ≡ map frame_of_word (take n words) ++ frame_of_word word ∷ [] =
+      ap (λ (k : ℕ). map frame_of_word (take k words)) (add-one n)
+      ∙ ap (λ (ws : List (List ℕ)). map frame_of_word ws) (take-suc words n word at.0)
+      ∙ map_push frame_of_word (take n words) (get_or words n word)
+      ∙ ap (λ (w : List ℕ). map frame_of_word (take n words) ++ frame_of_word w ∷ []) (sym at.1) in
       record {
-        done = o.done ++ word ∷ [];
-        whole =
-            o.whole
-            ∙ ap (λ (more : List (List ℕ)). o.done ++ map frame_of_word more) (next_word words at end l e)
-            ∙ sym (append_snoc o.done word (map frame_of_word (words_of (drop end words))));
         is_case = h.is_case;
         after =
-            λ frames f. h.after (frames ++ o.done) (o.after frames f)
-            ∙ ap after_all (append_assoc frames o.done (word ∷ []));
+            λ frames f. h.after (frames ++ map frame_of_word (take n words)) (o.after frames f)
+            ∙ ap after_all (append_assoc frames (map frame_of_word (take n words)) (frame_of_word word ∷ []))
+            ∙ ap (λ (ds : List Decoded). after_all (frames ++ ds)) (sym more);
       }
 
   -- after the last word
-  pub offered_all : length words ≤ at → HandedOn case (with_words words) r
+  pub offered_all : n ≡ length words → (text : List ℕ) → words ≡ words_of text → HandedOn case (with_words text) r
   unfolding with_words
-  offered_all l =
-      let all : map frame_of_word (words_of words) ≡ o.done =
-      o.whole
-      ∙ ap (λ (more : List (List ℕ)). o.done ++ map frame_of_word more) (no_word words at l)
-      ∙ append-nil o.done in
-      record { is_case = o.is_case; after = λ frames e. rw all (o.after frames e) }
+  offered_all l text e =
+      record {
+        is_case = o.is_case;
+        after = λ frames f. rw (← e) (o.after frames f ∙ ap (λ (ws : List (List ℕ)). after_all (frames ++ map frame_of_word ws)) (take_all n words (omega arith)));
+      }
+
+-- where there is no word
+pub offered_no_word : {c : Case} (text : List ℕ) → length text < 1 → IsCase c → HandedOn c (with_words text) c
+unfolding with_words words_of
+offered_no_word [] l is = record { is_case = is; after = λ frames e. rw append-nil e }
+offered_no_word (x ∷ more) l is = absurd (omega arith)
 
 -- a line of fewer than two bytes
 pub new_case : {case r : Case} (text : List ℕ) → length text < 2 → IsCase r → r ≡ after_all [] → HandedOn case (after_line text) r
@@ -83,13 +108,13 @@ by_command (x ∷ y ∷ more) frames l = refl
 
 module _ {case : Case} (text : List ℕ) (l : 1 < length text) where
   -- `F`
-  pub frames_offered : {r : Case} (bar : ℕ) → get_or text 0 0 ≡ 70 → EndAt text 2 124 bar → HandedOn case (with_words (take (length text - bar) (drop bar text))) r → HandedOn case (after_line text) r
-  frames_offered bar c e h =
-      let rest : take (length text - bar) (drop bar text) ≡ from_mark 124 (drop 2 text) =
-      take_all (length text - bar) (drop bar text) (simp length-drop (omega arith)) ∙ from_mark_lem 124 text 2 bar e in
+  pub frames_offered : {rest : List ℕ} → rest ≡ drop 2 text → {r : Case} (bar : ℕ) → get_or text 0 0 ≡ 70 → EndAt rest 0 124 bar → HandedOn case (with_words (take (length rest - bar) (drop bar rest))) r → HandedOn case (after_line text) r
+  frames_offered {rest} same bar c e h =
+      let marked : take (length rest - bar) (drop bar rest) ≡ from_mark 124 (drop 2 text) =
+      take_all (length rest - bar) (drop bar rest) (simp length-drop (omega arith)) ∙ from_mark_lem 124 rest 0 bar e ∙ ap (from_mark 124) same in
       record {
         is_case = h.is_case;
-        after = λ frames f. rw (by_command text frames l, eq-eqb (get_or text 0 0) 70 c, ← rest) (h.after frames f);
+        after = λ frames f. rw (by_command text frames l, eq-eqb (get_or text 0 0) 70 c, ← marked) (h.after frames f);
       }
 
   -- another byte

@@ -1,7 +1,6 @@
 -- Which case comes back: the frames that a script's words offer, and those of a line.
 use Rattle.std.specs.Prelude.{ℕ, cond, List, [], ◌∷◌, ◌++◌, map, ◌≡◌, eqb, take}
-use Rattle.frames.specs.declared.Decoded.{Decoded}
-use Rattle.frames.specs.Frames.{decoded}
+use Rattle.frames.specs.Frames.{Decoded, decoded}
 use Rattle.cases.specs.declared.Case.{Case}
 use Rattle.cases.specs.State.{after_all}
 use Rattle.cases.specs.Running.{IsCase}

@@ -9,7 +9,6 @@
 
 mod lines;
 
-ghost use Rattle.std.specs.Prelude.{◌≤◌, length};
 ghost use Rattle.cases.specs.Running.{IsCase};
 ghost use Rattle.running.specs.Offered.{after_line, HandedOn};
 
@@ -17,41 +16,37 @@ use cases::Case;
 use input::{end_at, read_input};
 use lines::{close, offer};
 
-// Does a line, and gives the case after it.
-fn line(rt: &impl Print, case: Case, text: &[u8]) -> Case
+// Does a line, and gives the case after it. A command stays a byte: each of the two letters stands in one arm.
+fn line(rt: &HostRuntime, case: Case, text: &[u8]) -> Case
     requires { IsCase case }
     ensures { HandedOn case (after_line text.now) result }
 {
-    if text.len() < 2 {
+    let [command, _, rest @ ..] = text else {
         return Case::start();
-    }
-    let bar = end_at(text, 2, b'|');
-    match text[0] {
-        b'F' => offer(rt, case, &text[2..bar], &text[bar..]),
+    };
+    let bar = end_at(rest, 0, b'|');
+    match command {
+        b'F' => offer(rt, case, &rest[..bar], &rest[bar..]),
         b'C' => {
-            close(rt, case, &text[2..bar]);
-            case
+            let after = case;
+            close(rt, case, &rest[..bar]);
+            after
         }
         _ => case,
     }
 }
 
-// Does the lines of a script in turn.
-fn run(rt: &impl Print, script: &[u8])
-    requires { length script.now ≤ 131072 }
-{
-    let mut case = Case::start();
-    let mut at: usize = 0;
-    while at < script.len() {
-        let end = end_at(script, at, b'\n');
-        case = line(rt, case, &script[at..end]);
-        at = end + 1;
-    }
-}
-
+// Does the lines of the script on standard input in turn. The case goes from line to line: a function for the lines of any script would
+// hand it to a closure and back, in no fewer lines.
 fn main(rt: HostRuntime) {
     let mut buffer = [0u8; 131072];
     let given = read_input(&mut rt.stdin(), &mut buffer);
-    let n = given.count;
-    run(&rt, &buffer[..n]);
+    let mut case = Case::start();
+    for ended in buffer[..given.count].split_inclusive(|x| *x == b'\n') {
+        let text = match ended {
+            [text @ .., b'\n'] => text,
+            text => text,
+        };
+        case = line(&rt, case, text);
+    }
 }

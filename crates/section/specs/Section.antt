@@ -1,6 +1,5 @@
 -- The pay of the member's section, as a case holds it: what an 04 or an 08 makes of it, and what closing reads off it.
-use Rattle.std.specs.Prelude.{ℕ, ◌+◌, Bool, true, false, ◌||◌, not, cond, eqb}
-use Rattle.measures.specs.Tries.{tried}
+use Rattle.std.specs.Prelude.{ℕ, ◌+◌, Bool, ◌||◌, not, cond, eqb, Option, Some, None, is_some}
 use Rattle.measures.specs.Rounding.{upward}
 use Rattle.benefits.specs.declared.FinalPay.{FinalPay}
 use Rattle.benefits.specs.Steps.{final_pay, section_pension, section_pension_way, lump_sum, final_pay_refusal}
@@ -11,8 +10,8 @@ use Rattle.averages.specs.Averages.{averaged, pension2008, pension2008_way, ten_
 use Rattle.averages.specs.Bounds.{AveragePayBounds}
 use Rattle.frames.specs.Limits.{is_section}
 use Rattle.rules.specs.declared.SchemeAmounts.{SchemeAmounts}
+use Rattle.section.specs.declared.HeldPay.{HeldPay}
 use Rattle.section.specs.declared.SectionState.{SectionState}
-use Rattle.section.specs.declared.SectionTaken.{SectionTaken}
 
 -- a final pay with noughts
 abbrev pub no_pay : FinalPay
@@ -36,7 +35,19 @@ no_average = record { pay = record { 0 = 0 }; year = 0; days = 0; ups = 0 }
 
 -- no pay frame yet
 abbrev pub no_section : SectionState
-no_section = record { given = false; pay = no_pay; average = no_average }
+no_section = record { pay = None }
+
+-- the final pay held, noughts without one
+abbrev pub final_pay_of : Option HeldPay → FinalPay
+final_pay_of None = no_pay
+final_pay_of (Some (HeldPay.FinalPay f)) = f
+final_pay_of (Some (HeldPay.Average a)) = no_pay
+
+-- the average pay held, noughts without one
+abbrev pub average_of : Option HeldPay → AveragePay
+average_of None = no_average
+average_of (Some (HeldPay.FinalPay f)) = no_average
+average_of (Some (HeldPay.Average a)) = a
 
 -- ---- by an 04
 
@@ -46,11 +57,7 @@ pay_fields s f = final_pay_refusal f
 
 -- the final pay
 unfoldable pub with_pay : SectionState → FinalPay → SectionState
-with_pay s f = record { given = true; pay = f; average = no_average }
-
--- an 04 taken: refused, the section as it was
-unfoldable pub pay_taken : SectionState → FinalPay → SectionTaken
-pay_taken s f = record { section = tried pay_fields with_pay s f; refusal = pay_fields s f }
+with_pay s f = record { pay = Some (HeldPay.FinalPay f) }
 
 -- ---- by an 08
 
@@ -60,17 +67,13 @@ ten_pays_fields s t = ten_pays_refusal t
 
 -- its average pay
 unfoldable pub with_ten_pays : SectionState → TenPays → SectionState
-with_ten_pays s t = record { given = true; pay = no_pay; average = averaged t }
-
--- an 08 taken: refused, the section as it was
-unfoldable pub ten_pays_taken : SectionState → TenPays → SectionTaken
-ten_pays_taken s t = record { section = tried ten_pays_fields with_ten_pays s t; refusal = ten_pays_fields s t }
+with_ten_pays s t = record { pay = Some (HeldPay.Average (averaged t)) }
 
 -- ---- closing
 
 -- the pay frame that a section wants is there; else 12
 unfoldable pub pay_held : ℕ → SectionState → Bool
-pay_held section s = not (is_section section) || s.given
+pay_held section s = not (is_section section) || is_some s.pay
 
 -- the 1995 pension of a final pay
 unfoldable pub pension_of_pay : FinalPay → ℕ
@@ -87,11 +90,11 @@ ups_of_average a = a.ups + upward (pension2008_way a.pay.0 a.days)
 -- the pension of the member's section
 unfoldable pub pension_earned : ℕ → SectionState → ℕ
 pension_earned section s =
-    cond (eqb section 1) (pension_of_pay s.pay) (cond (eqb section 2) (pension2008 s.average.pay.0 s.average.days) 0)
+    cond (eqb section 1) (pension_of_pay (final_pay_of s.pay)) (cond (eqb section 2) (pension2008 (average_of s.pay).pay.0 (average_of s.pay).days) 0)
 
 -- how many of its roundings went up
 unfoldable pub ups_earned_by : ℕ → SectionState → ℕ
-ups_earned_by section s = cond (eqb section 1) (ups_of_pay s.pay) (cond (eqb section 2) (ups_of_average s.average) 0)
+ups_earned_by section s = cond (eqb section 1) (ups_of_pay (final_pay_of s.pay)) (cond (eqb section 2) (ups_of_average (average_of s.pay)) 0)
 
 -- the lump sum that goes with it, in the 1995 Section alone
 unfoldable pub lump_earned : ℕ → ℕ → ℕ
@@ -109,5 +112,5 @@ earned_of s section pension ups =
 
 -- how large its numbers are
 pub record SectionBounds (s : SectionState) : Type 0 where
-  pub pay : FinalPayBounds s.pay
-  pub average : AveragePayBounds s.average
+  pub pay : FinalPayBounds (final_pay_of s.pay)
+  pub average : AveragePayBounds (average_of s.pay)

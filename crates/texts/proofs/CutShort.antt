@@ -1,4 +1,5 @@
 -- A text whose last byte is not 0A is not worked: what the case program hands on after a failed read never passes for a whole text.
+use Rattle.std.specs.Prelude.{Ok}
 use Prim.Native.Nat.{ℕ}
 use mathlib.Core.Path.{◌≡◌, refl}
 use mathlib.Core.List.{List, [], ◌∷◌, ◌++◌}
@@ -8,7 +9,6 @@ use borrow.Author.Tests.{eqb-true}
 use native.Mathlib.Omega.{arith}
 use Rattle.measures.specs.Tries.{Unrefused, more}
 use Rattle.rules.specs.declared.Amounts.{Amounts}
-use Rattle.rules.specs.declared.Outcome.{Outcome}
 use Rattle.rules.specs.Rules.{Kept, nothing, refusal_of_decoded, keep_decoded}
 use Rattle.texts.specs.Text.{Line, ended, unended, character_then, lines_of, line_bytes, decoded_line, frames_of_lines, frames_of, work_text}
 use Rattle.texts.proofs.Worked.{text_unrefused}
@@ -41,6 +41,6 @@ line_refused k (unended cs ∷ ls) here (more e rest) = omega (arith, e)
 line_refused k (l ∷ ls) (there u) (more e rest) = line_refused (keep_decoded k (decoded_line (line_bytes l))) ls u rest
 line_refused k [] x'' _ = elim x'' [ ]
 
-pub cut_short : (text : List ℕ) (x : ℕ) → (x ≡ 10 → ⊥) → (a : Amounts) → work_text (text ++ x ∷ []) ≡ Outcome.Worked a → ⊥
+pub cut_short : (text : List ℕ) (x : ℕ) → (x ≡ 10 → ⊥) → (a : Amounts) → work_text (text ++ x ∷ []) ≡ Ok a → ⊥
 unfolding frames_of
 cut_short text x other a e = line_refused nothing (lines_of (text ++ x ∷ [])) (last_unended text x other) (text_unrefused (text ++ x ∷ []) a e)

@@ -1,20 +1,17 @@
--- How characters spell the bytes of a line, read from the front: what the line comes to, where it has spelled some bytes so far and perhaps the first digit of
--- the next, of which an array holds the front. A law for each thing that can come next, and what the line is among the frames of the text.
-use Prim.Native.Nat.{ℕ, ◌+◌, ◌*◌, ◌≤◌, ◌<◌}
+-- How characters spell the bytes of a line, read from the front: what the line comes to, where it has spelled some bytes so far and perhaps the
+-- first digit of the next, of which an array holds the front. A law for each thing that can come next, and what the line is among the frames of the
+-- text.
+use Prim.Native.Nat.{ℕ, suc, ◌+◌, ◌*◌, ◌≤◌, ◌<◌}
 use mathlib.Core.Path.{◌≡◌, refl, sym, ap, ◌∙◌}
 use mathlib.Core.List.{List, [], ◌∷◌, ◌++◌, append_assoc, append-nil}
 use mathlib.Core.Bool.{Bool, true, false}
-use mathlib.Core.Option.{Option, none, some}
+use Rattle.std.specs.Prelude.{Option, Some, None, is_some, Err}
+use Rattle.measures.proofs.Tests.{clash}
 use native.Mathlib.Omega.{arith}
-use native.Mathlib.Numerals.{add-one}
-use lib.ListN.{length, take, drop, get_or, set, drop_of_length-le, length-append}
-use lib.Dec.{eqb}
-use lib.Seq.{drop-cons}
-use borrow.Author.Tests.{eq-eqb, ne_eqb}
-use Rattle.frames.specs.declared.Decoded.{Decoded}
+use lib.ListN.{length, take, set, length-append}
+use borrow.Author.Tests.{ne_eqb}
 use Rattle.frames.specs.Frames.{longest_frame, decoded}
 use Rattle.frames.proofs.Bytes.{decoded_front}
-use Rattle.fields.specs.declared.Digit.{Digit}
 use Rattle.fields.specs.Digits.{digit_of}
 use Rattle.fields.proofs.Digits.{digit_small}
 use Rattle.texts.specs.Text.{Line, ended, unended, character_then, lines_of, byte_then, bytes_of, line_bytes, decoded_line, frames_of_lines, frames_of}
@@ -24,7 +21,7 @@ use Rattle.texts.proofs.Holding.{Held, held_none, held_more, held_full}
 
 -- the bytes that it spells; none where it is refused by 2
 unfoldable pub first_bytes : List Line → Option (List ℕ)
-first_bytes [] = none
+first_bytes [] = None
 first_bytes (l ∷ ls) = line_bytes l
 
 -- the lines behind it
@@ -34,38 +31,34 @@ later_lines (l ∷ ls) = ls
 
 -- ---- the first of some lines, where part of it is read
 
--- the first digit of a byte where none is read
-abbrev pub no_digit : ℕ
-no_digit = 16
-
--- the bytes that the rest of a line spells, `false` where the first digit of the next byte is read
-unfoldable pub rest_bytes : Bool → ℕ → List ℕ → Option (List ℕ)
-rest_bytes true high cs = bytes_of cs
-rest_bytes false high [] = none
-rest_bytes false high (x ∷ more) = byte_then (Digit.Value high) (digit_of x) (bytes_of more)
+-- the bytes that the rest of a line spells, where the first digit of the next byte is read or none
+unfoldable pub rest_bytes : Option ℕ → List ℕ → Option (List ℕ)
+rest_bytes None cs = bytes_of cs
+rest_bytes (Some high) [] = None
+rest_bytes (Some high) (x ∷ more) = byte_then (Some high) (digit_of x) (bytes_of more)
 
 -- bytes in front of those that follow; none where there are none at all
 unfoldable pub bytes_then : List ℕ → Option (List ℕ) → Option (List ℕ)
-bytes_then spelled none = none
-bytes_then [] (some []) = none
-bytes_then [] (some (b ∷ more)) = some (b ∷ more)
-bytes_then (b ∷ bs) (some more) = some (b ∷ (bs ++ more))
+bytes_then spelled None = None
+bytes_then [] (Some []) = None
+bytes_then [] (Some (b ∷ more)) = Some (b ∷ more)
+bytes_then (b ∷ bs) (Some more) = Some (b ∷ (bs ++ more))
 
 -- the bytes of a line that has spelled some, with `high` the first digit of the next or none; what is left of it is the first line of those left
-unfoldable pub bytes_from : List ℕ → ℕ → List Line → Option (List ℕ)
-bytes_from spelled high [] = none
-bytes_from spelled high (unended cs ∷ ls) = none
-bytes_from spelled high (ended cs ∷ ls) = bytes_then spelled (rest_bytes (eqb high no_digit) high cs)
+unfoldable pub bytes_from : List ℕ → Option ℕ → List Line → Option (List ℕ)
+bytes_from spelled high [] = None
+bytes_from spelled high (unended cs ∷ ls) = None
+bytes_from spelled high (ended cs ∷ ls) = bytes_then spelled (rest_bytes high cs)
 
-byte_alone : (a b : Digit) (more : Option (List ℕ)) → bytes_then [] (byte_then a b more) ≡ byte_then a b more
+byte_alone : (a b : Option ℕ) (more : Option (List ℕ)) → bytes_then [] (byte_then a b more) ≡ byte_then a b more
 unfolding bytes_then byte_then
-byte_alone (Digit.Value h) (Digit.Value l) none = refl
-byte_alone (Digit.Value h) (Digit.Value l) (some more) = refl
-byte_alone (Digit.Value h) Digit.Other more = refl
-byte_alone Digit.Other b more = refl
+byte_alone (Some h) (Some l) None = refl
+byte_alone (Some h) (Some l) (Some more) = refl
+byte_alone (Some h) None more = refl
+byte_alone None b more = refl
 
 -- nothing of it is read
-bytes_unread : (ls : List Line) → first_bytes ls ≡ bytes_from [] no_digit ls
+bytes_unread : (ls : List Line) → first_bytes ls ≡ bytes_from [] None ls
 unfolding first_bytes bytes_from line_bytes bytes_then rest_bytes bytes_of
 bytes_unread [] = refl
 bytes_unread (unended cs ∷ ls) = refl
@@ -73,59 +66,60 @@ bytes_unread (ended [] ∷ ls) = refl
 bytes_unread (ended (x ∷ []) ∷ ls) = refl
 bytes_unread (ended (x ∷ y ∷ more) ∷ ls) = rw byte_alone refl
 
-rest_first : (x v : ℕ) (cs : List ℕ) → digit_of x ≡ Digit.Value v → rest_bytes true no_digit (x ∷ cs) ≡ rest_bytes false v cs
+rest_first : (x v : ℕ) (cs : List ℕ) → digit_of x ≡ Some v → rest_bytes None (x ∷ cs) ≡ rest_bytes (Some v) cs
 unfolding rest_bytes bytes_of
 rest_first x v [] d = refl
 rest_first x v (y ∷ more) d = rw d refl
 
 -- the first digit of a byte
-bytes_first : (bs : List ℕ) (x v : ℕ) (ls : List Line) → digit_of x ≡ Digit.Value v → bytes_from bs no_digit (character_then false x ls) ≡ bytes_from bs v ls
+bytes_first : (bs : List ℕ) (x v : ℕ) (ls : List Line) → digit_of x ≡ Some v → bytes_from bs None (character_then false x ls) ≡ bytes_from bs (Some v) ls
 unfolding bytes_from character_then
 bytes_first bs x v [] d = refl
 bytes_first bs x v (unended cs ∷ ls) d = refl
-bytes_first bs x v (ended cs ∷ ls) d = rw (ne_eqb v no_digit (omega (arith, digit_small x v d)), rest_first x v cs d) refl
+bytes_first bs x v (ended cs ∷ ls) d = rw (rest_first x v cs d) refl
 
-one_more : (bs : List ℕ) (h v : ℕ) (more : Option (List ℕ)) → bytes_then bs (byte_then (Digit.Value h) (Digit.Value v) more) ≡ bytes_then (bs ++ (h * 16 + v) ∷ []) more
+one_more : (bs : List ℕ) (h v : ℕ) (more : Option (List ℕ)) → bytes_then bs (byte_then (Some h) (Some v) more) ≡ bytes_then (bs ++ (h * 16 + v) ∷ []) more
 unfolding bytes_then byte_then
-one_more [] h v none = refl
-one_more [] h v (some more) = refl
-one_more (b ∷ bs) h v none = refl
-one_more (b ∷ bs) h v (some more) = ap (λ (l : List ℕ). some (b ∷ l)) (sym (append_assoc bs ((h * 16 + v) ∷ []) more))
+one_more [] h v None = refl
+one_more [] h v (Some more) = refl
+one_more (b ∷ bs) h v None = refl
+one_more (b ∷ bs) h v (Some more) = ap (λ (l : List ℕ). Some (b ∷ l)) (sym (append_assoc bs ((h * 16 + v) ∷ []) more))
 
 -- the second: the two are a byte
-bytes_second : (bs : List ℕ) (h x v : ℕ) (ls : List Line) → digit_of x ≡ Digit.Value v → (h ≡ no_digit → ⊥)
-    → bytes_from bs h (character_then false x ls) ≡ bytes_from (bs ++ (h * 16 + v) ∷ []) no_digit ls
+bytes_second : (bs : List ℕ) (h x v : ℕ) (ls : List Line) → digit_of x ≡ Some v
+    → bytes_from bs (Some h) (character_then false x ls) ≡ bytes_from (bs ++ (h * 16 + v) ∷ []) None ls
 unfolding bytes_from character_then rest_bytes
-bytes_second bs h x v [] d n = refl
-bytes_second bs h x v (unended cs ∷ ls) d n = refl
-bytes_second bs h x v (ended cs ∷ ls) d n = rw (ne_eqb h no_digit n, d, one_more) refl
+bytes_second bs h x v [] d = refl
+bytes_second bs h x v (unended cs ∷ ls) d = refl
+bytes_second bs h x v (ended cs ∷ ls) d = rw (d, one_more) refl
 
-rest_other : (t : Bool) (h x : ℕ) (cs : List ℕ) → digit_of x ≡ Digit.Other → rest_bytes t h (x ∷ cs) ≡ none
+rest_other : (high : Option ℕ) (x : ℕ) (cs : List ℕ) → digit_of x ≡ None → rest_bytes high (x ∷ cs) ≡ None
 unfolding rest_bytes bytes_of byte_then
-rest_other true h x [] d = refl
-rest_other true h x (y ∷ more) d = rw d refl
-rest_other false h x cs d = rw d refl
+rest_other None x [] d = refl
+rest_other None x (y ∷ more) d = rw d refl
+rest_other (Some h) x cs d = rw d refl
 
 -- another character
-bytes_other : (bs : List ℕ) (h x : ℕ) (ls : List Line) → digit_of x ≡ Digit.Other → bytes_from bs h (character_then false x ls) ≡ none
+bytes_other : (bs : List ℕ) (high : Option ℕ) (x : ℕ) (ls : List Line) → digit_of x ≡ None → bytes_from bs high (character_then false x ls) ≡ None
 unfolding bytes_from character_then bytes_then
-bytes_other bs h x [] d = refl
-bytes_other bs h x (unended cs ∷ ls) d = refl
-bytes_other bs h x (ended cs ∷ ls) d = rw (rest_other (eqb h no_digit) h x cs d) refl
+bytes_other bs high x [] d = refl
+bytes_other bs high x (unended cs ∷ ls) d = refl
+bytes_other bs high x (ended cs ∷ ls) d = rw (rest_other high x cs d) refl
 
 -- 0A where a second digit is missing
-bytes_odd : (bs : List ℕ) (h x : ℕ) (ls : List Line) → (h ≡ no_digit → ⊥) → bytes_from bs h (character_then true x ls) ≡ none
+bytes_odd : (bs : List ℕ) (high : Option ℕ) (x : ℕ) (ls : List Line) → is_some high ≡ true → bytes_from bs high (character_then true x ls) ≡ None
 unfolding bytes_from character_then bytes_then rest_bytes
-bytes_odd bs h x ls n = rw (ne_eqb h no_digit n) refl
+bytes_odd bs None x ls o = clash (cc)
+bytes_odd bs (Some h) x ls o = refl
 
 -- 0A after nothing
-bytes_empty : (bs : List ℕ) (x : ℕ) (ls : List Line) → length bs ≡ 0 → bytes_from bs no_digit (character_then true x ls) ≡ none
+bytes_empty : (bs : List ℕ) (x : ℕ) (ls : List Line) → length bs ≡ 0 → bytes_from bs None (character_then true x ls) ≡ None
 unfolding bytes_from character_then bytes_then rest_bytes bytes_of
 bytes_empty [] x ls e = refl
 bytes_empty (b ∷ bs) x ls e = absurd (omega arith)
 
 -- 0A after some bytes
-bytes_whole : (bs : List ℕ) (x : ℕ) (ls : List Line) → 0 < length bs → bytes_from bs no_digit (character_then true x ls) ≡ some bs
+bytes_whole : (bs : List ℕ) (x : ℕ) (ls : List Line) → 0 < length bs → bytes_from bs None (character_then true x ls) ≡ Some bs
 unfolding bytes_from character_then bytes_then rest_bytes bytes_of
 bytes_whole [] x ls s = absurd (omega arith)
 bytes_whole (b ∷ bs) x ls s = rw append-nil refl
@@ -139,123 +133,134 @@ later_same x (unended cs ∷ ls) = refl
 
 -- ---- a line of a text
 
-module _ (text : List ℕ) (at : ℕ) (inside : at < length text) where
-  lines_at : lines_of (drop at text) ≡ character_then (eqb (get_or text at 0) 10) (get_or text at 0) (lines_of (drop (at + 1) text))
-  unfolding lines_of
-  lines_at = rw (add-one, drop-cons text at 0 inside) refl
+-- no line of bytes begins what is left of a text: an empty line, another character, an odd digit count or no final 0A
+pub record NoBytes (from : List ℕ) : Type 0 where
+  pub first : first_bytes (lines_of from) ≡ None
 
-  -- at a 0A
-  lines_at_end : get_or text at 0 ≡ 10 → lines_of (drop at text) ≡ character_then true (get_or text at 0) (lines_of (drop (at + 1) text))
-  lines_at_end e = lines_at ∙ rw (eq-eqb _ _ e) refl
-
-  -- at another character
-  lines_at_other : (get_or text at 0 ≡ 10 → ⊥) → lines_of (drop at text) ≡ character_then false (get_or text at 0) (lines_of (drop (at + 1) text))
-  lines_at_other e = lines_at ∙ rw (ne_eqb _ _ e) refl
-
--- at a place no line of bytes begins: an empty line, another character, an odd digit count or no final 0A
-pub record NoBytes (text : List ℕ) (from : ℕ) : Type 0 where
-  pub first : first_bytes (lines_of (drop from text)) ≡ none
-
--- at a place a line of bytes begins, whose front an array of `room` places holds, and the next line at another
-pub record WholeLine (room : ℕ) (text : List ℕ) (from next : ℕ) (bytes : List ℕ) (n : ℕ) : Type 0 where
+-- a line of bytes begins it, whose front an array of `room` places holds, and behind it comes `next`
+pub record WholeLine (room : ℕ) (from next bytes : List ℕ) (n : ℕ) : Type 0 where
   pub spelled : List ℕ
-  pub first : first_bytes (lines_of (drop from text)) ≡ some spelled
-  pub later : later_lines (lines_of (drop from text)) ≡ lines_of (drop next text)
+  pub first : first_bytes (lines_of from) ≡ Some spelled
+  pub later : later_lines (lines_of from) ≡ lines_of next
   pub held : Held room spelled bytes n
-  pub within : next ≤ length text
-  pub spent : from + (length spelled + length spelled) + 1 ≤ next
+  pub spent : length next + (length spelled + length spelled) + 1 ≤ length from
   pub some : 0 < n
 
--- the line that begins at `from` is read up to `at`: it has spelled bytes, whose front the array holds, and `high` is the first digit of the next or none
-pub record InLine (room : ℕ) (text : List ℕ) (from at : ℕ) (bytes : List ℕ) (n high : ℕ) : Type 0 where
+-- the first digit of a byte is below 16
+abbrev pub SmallDigit : Option ℕ → Type 0
+SmallDigit None = Unit {0}
+SmallDigit (Some high) = high < 16
+
+-- how many digits of a byte are read
+abbrev pub digits_read : Option ℕ → ℕ
+digits_read None = 0
+digits_read (Some high) = 1
+
+-- the line that begins `from` is read up to `rest`: it has spelled bytes, whose front the array holds, and `high` is the first digit of the next
+-- or none
+pub record InLine (room : ℕ) (from rest bytes : List ℕ) (n : ℕ) (high : Option ℕ) : Type 0 where
   pub spelled : List ℕ
-  pub first : first_bytes (lines_of (drop from text)) ≡ bytes_from spelled high (lines_of (drop at text))
-  pub later : later_lines (lines_of (drop from text)) ≡ later_lines (lines_of (drop at text))
+  pub first : first_bytes (lines_of from) ≡ bytes_from spelled high (lines_of rest)
+  pub later : later_lines (lines_of from) ≡ later_lines (lines_of rest)
   pub held : Held room spelled bytes n
-  pub within : at ≤ length text
-  pub digit : high ≤ no_digit
-  pub spent : from + (length spelled + length spelled) ≤ at
-  pub half : (high ≡ no_digit → ⊥) → from + (length spelled + length spelled) + 1 ≤ at
+  pub digit : SmallDigit high
+  pub spent : length rest + (length spelled + length spelled) + digits_read high ≤ length from
+
+none_read : (high : Option ℕ) → is_some high ≡ false → high ≡ None
+none_read None o = refl
+none_read (Some h) o = clash (cc)
 
 -- nothing of it is read
-pub unread : (room : ℕ) (text : List ℕ) (from : ℕ) → from ≤ length text → (bytes : List ℕ) → length bytes ≡ room → InLine room text from from bytes 0 no_digit
-unread room text from h bytes e = record {
+pub unread : (room : ℕ) (from bytes : List ℕ) → length bytes ≡ room → InLine room from from bytes 0 None
+unread room from bytes e = record {
   spelled = [];
   first = bytes_unread _;
   later = refl;
   held = held_none room bytes e;
-  within = h;
-  digit = omega arith;
+  digit = tt;
   spent = omega arith;
-  half = λ n. absurd (n refl);
 }
 
 -- the text ends within it
-pub text_ends : {room : ℕ} {text : List ℕ} {from at : ℕ} {bytes : List ℕ} {n high : ℕ} → InLine room text from at bytes n high → length text ≤ at → NoBytes text from
+pub text_ends : {room : ℕ} {from rest bytes : List ℕ} {n : ℕ} {high : Option ℕ} → InLine room from rest bytes n high → length rest ≡ 0 → NoBytes from
 unfolding bytes_from lines_of
-text_ends {text = text} i h = record { first = i.first ∙ rw (drop_of_length-le text h) refl }
+text_ends {rest = []} i e = record { first = i.first }
+text_ends {rest = x ∷ more} i e = clash (omega arith)
 
-module _ {room : ℕ} {text : List ℕ} {from at : ℕ} {bytes : List ℕ} {n high : ℕ} (i : InLine room text from at bytes n high) (h : at < length text) where
-  -- 0A after an odd count of digits
-  pub odd_line : get_or text at 0 ≡ 10 → (high ≡ no_digit → ⊥) → NoBytes text from
-  odd_line e o = record { first = i.first ∙ rw (lines_at_end text at h e) (bytes_odd _ _ _ _ o) }
+-- at 0A
+module _ {room : ℕ} {from more bytes : List ℕ} {n : ℕ} {high : Option ℕ} (i : InLine room from (10 ∷ more) bytes n high) where
+  -- after an odd count of digits
+  pub odd_line : is_some high ≡ true → NoBytes from
+  unfolding lines_of
+  odd_line o = record { first = i.first ∙ bytes_odd _ _ _ _ o }
 
-  -- 0A after nothing
-  pub empty_line : get_or text at 0 ≡ 10 → high ≡ no_digit → n ≡ 0 → 0 < room → NoBytes text from
-  empty_line e o z r = record { first = i.first ∙ rw (lines_at_end text at h e, o) (bytes_empty _ _ _ (omega arith)) }
+  -- after nothing
+  pub empty_line : is_some high ≡ false → n ≡ 0 → 0 < room → NoBytes from
+  unfolding lines_of
+  empty_line o z r = record { first = i.first ∙ rw (none_read high o) (bytes_empty _ _ _ (omega arith)) }
 
-  -- 0A after some bytes
-  pub whole_line : get_or text at 0 ≡ 10 → high ≡ no_digit → (n ≡ 0 → ⊥) → WholeLine room text from (at + 1) bytes n
-  unfolding later_lines character_then
-  whole_line e o z = record {
+  -- after some bytes
+  pub whole_line : is_some high ≡ false → (n ≡ 0 → ⊥) → WholeLine room from more bytes n
+  unfolding later_lines character_then lines_of
+  whole_line o z = record {
     spelled = i.spelled;
-    first = i.first ∙ rw (lines_at_end text at h e, o) (bytes_whole _ (get_or text at 0) _ (omega arith));
-    later = i.later ∙ rw (lines_at_end text at h e) refl;
+    first = i.first ∙ rw (none_read high o) (bytes_whole _ 10 _ (omega arith));
+    later = i.later;
     held = i.held;
-    within = omega arith;
-    spent = omega arith;
+    spent = let before : suc (length more) + (length i.spelled + length i.spelled) + 0 ≤ length from = rw (none_read high o) at i.spent in omega arith;
     some = omega arith;
   }
 
-  module _ (ne : get_or text at 0 ≡ 10 → ⊥) where
-    -- another character
-    pub other_character : digit_of (get_or text at 0) ≡ Digit.Other → NoBytes text from
-    other_character d = record { first = i.first ∙ rw (lines_at_other text at h ne) (bytes_other _ _ _ _ d) }
+-- at another character
+module _ {room : ℕ} {from : List ℕ} {x : ℕ} {more bytes : List ℕ} {n : ℕ} {high : Option ℕ} (i : InLine room from (x ∷ more) bytes n high) (ne : x ≡ 10 → ⊥) where
+  lines_here : lines_of (x ∷ more) ≡ character_then false x (lines_of more)
+  unfolding lines_of
+  lines_here = rw (ne_eqb x 10 ne) refl
 
-    module _ (v : ℕ) (d : digit_of (get_or text at 0) ≡ Digit.Value v) where
-      -- the first digit of a byte
-      pub first_digit : high ≡ no_digit → InLine room text from (at + 1) bytes n v
-      first_digit e = record {
-        spelled = i.spelled;
-        first = (rw e at i.first) ∙ rw (lines_at_other text at h ne) (bytes_first _ _ _ _ d);
-        later = i.later ∙ rw (lines_at_other text at h ne) (later_same _ _);
-        held = i.held;
-        within = omega arith;
-        digit = omega (arith, digit_small _ v d);
-        spent = omega arith;
-        half = λ o. omega arith;
-      }
+  later_here : later_lines (lines_of from) ≡ later_lines (lines_of more)
+  later_here = i.later ∙ rw lines_here (later_same _ _)
 
+  -- no digit
+  pub other_character : digit_of x ≡ None → NoBytes from
+  other_character d = record { first = i.first ∙ rw lines_here (bytes_other _ _ _ _ d) }
+
+  module _ (v : ℕ) (d : digit_of x ≡ Some v) where
+    -- the first digit of a byte
+    pub first_digit : high ≡ None → InLine room from more bytes n (Some v)
+    first_digit e = record {
+      spelled = i.spelled;
+      first = (rw e at i.first) ∙ rw lines_here (bytes_first _ _ _ _ d);
+      later = later_here;
+      held = i.held;
+      digit = digit_small _ v d;
+      spent = let before : suc (length more) + (length i.spelled + length i.spelled) + 0 ≤ length from = rw e at i.spent in omega arith;
+    }
+
+    module _ (first : ℕ) (o : high ≡ Some first) where
       -- the second digit of a byte, with what becomes of the array
-      second_digit : (high ≡ no_digit → ⊥) → {next : List ℕ} {m : ℕ} → Held room (i.spelled ++ (high * 16 + v) ∷ []) next m → InLine room text from (at + 1) next m no_digit
-      second_digit o held = record {
-        spelled = i.spelled ++ (high * 16 + v) ∷ [];
-        first = i.first ∙ rw (lines_at_other text at h ne) (bytes_second _ _ _ _ _ d o);
-        later = i.later ∙ rw (lines_at_other text at h ne) (later_same _ _);
-        held = held;
-        within = omega arith;
-        digit = omega arith;
-        spent = simp length-append (omega (arith, i.half o));
-        half = λ e. absurd (e refl);
-      }
+      second_digit : {next : List ℕ} {m : ℕ} → Held room (i.spelled ++ (first * 16 + v) ∷ []) next m → InLine room from more next m None
+      second_digit held =
+          let before : suc (length more) + (length i.spelled + length i.spelled) + 1 ≤ length from = rw o at i.spent in
+          record {
+            spelled = i.spelled ++ (first * 16 + v) ∷ [];
+            first = (rw o at i.first) ∙ rw lines_here (bytes_second _ _ _ _ _ d);
+            later = later_here;
+            held = held;
+            digit = tt;
+            spent = simp length-append (omega arith);
+          }
 
       -- the byte goes into the array
-      pub byte_held : (high ≡ no_digit → ⊥) → n < room → InLine room text from (at + 1) (set bytes n (high * 16 + v)) (n + 1) no_digit
-      byte_held o f = second_digit o (held_more i.held _ f)
+      pub byte_held : n < room → InLine room from more (set bytes n (first * 16 + v)) (n + 1) None
+      byte_held f = second_digit (held_more i.held _ f)
 
       -- the array is full: the byte is passed over
-      pub byte_passed : (high ≡ no_digit → ⊥) → room ≤ n → InLine room text from (at + 1) bytes n no_digit
-      byte_passed o f = second_digit o (held_full i.held _ f)
+      pub byte_passed : room ≤ n → InLine room from more bytes n None
+      byte_passed f = second_digit (held_full i.held _ f)
+
+      -- the two digits are a byte
+      pub fits_byte : first * 16 + v < 256
+      fits_byte = let small : first < 16 = rw o at i.digit in omega (arith, digit_small _ v d)
 
 -- ---- the frames of the lines
 
@@ -267,19 +272,18 @@ frames_first false x [] = refl
 frames_first false x (ended cs ∷ ls) = refl
 frames_first false x (unended cs ∷ ls) = refl
 
-frames_at : (text : List ℕ) (from : ℕ) → from < length text
-    → frames_of (drop from text) ≡ decoded_line (first_bytes (lines_of (drop from text))) ∷ frames_of_lines (later_lines (lines_of (drop from text)))
-unfolding frames_of
-frames_at text from h = rw (lines_at text from h) (frames_first _ _ _)
+frames_at : (from : List ℕ) → 0 < length from
+    → frames_of from ≡ decoded_line (first_bytes (lines_of from)) ∷ frames_of_lines (later_lines (lines_of from))
+unfolding frames_of lines_of
+frames_at [] h = absurd (omega arith)
+frames_at (x ∷ more) h = frames_first _ _ _
 
 -- a line without bytes is refused by 2
-pub frames_none : {text : List ℕ} {from : ℕ} → from < length text → NoBytes text from
-    → frames_of (drop from text) ≡ Decoded.Refused 2 ∷ frames_of_lines (later_lines (lines_of (drop from text)))
+pub frames_none : {from : List ℕ} → 0 < length from → NoBytes from → frames_of from ≡ Err 2 ∷ frames_of_lines (later_lines (lines_of from))
 unfolding decoded_line
-frames_none {text} {from} h n = frames_at text from h ∙ rw n.first refl
+frames_none {from} h n = frames_at from h ∙ rw n.first refl
 
 -- a line with bytes is what they decode to, by as many as an array holds that is one longer than the longest frame
-pub frames_whole : {text : List ℕ} {from next : ℕ} {bytes : List ℕ} {n : ℕ} → WholeLine (longest_frame + 1) text from next bytes n
-    → frames_of (drop from text) ≡ decoded (take n bytes) ∷ frames_of (drop next text)
+pub frames_whole : {from next bytes : List ℕ} {n : ℕ} → WholeLine (longest_frame + 1) from next bytes n → frames_of from ≡ decoded (take n bytes) ∷ frames_of next
 unfolding decoded_line frames_of
-frames_whole {text} {from} w = frames_at text from (omega arith) ∙ rw (w.first, w.later, w.held.front, decoded_front) refl
+frames_whole {from} w = frames_at from (omega arith) ∙ rw (w.first, w.later, w.held.front, decoded_front) refl

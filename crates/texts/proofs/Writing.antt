@@ -6,7 +6,7 @@ use native.Mathlib.Omega.{arith}
 use native.Mathlib.Numerals.{sub-one}
 use lib.ListN.{length, take, drop, get_or, set, length-set, length-append, length-take}
 use lib.Seq.{take-suc, set_at, take-set-lt, drop-set-lt, drop-drop, length-take-le}
-use Rattle.rules.specs.declared.Outcome.{Outcome}
+use Rattle.rules.specs.Outcomes.{Outcome}
 use Rattle.texts.specs.declared.PrintedLine.{PrintedLine}
 use Rattle.texts.specs.Printed.{character_of, digits_of, Printed}
 use Rattle.texts.specs.Lines.{Extended}
@@ -23,41 +23,49 @@ unfolding digits_of
 last_digit zero number some = absurd (omega arith)
 last_digit (suc count) number some = rw sub-one refl
 
--- of the digits that come behind the first `at` places of `start`, all but the first `left` stand in their places, and these are the digits of `rest`
-pub record Behind (start : List ℕ) (at many number : ℕ) (bytes : List ℕ) (left rest : ℕ) : Type 0 where
+-- of the digits that come behind the first `at` places of `start`, those from `place` on stand in their places, and those before are the digits
+-- of `rest`
+pub record Behind (start : List ℕ) (at many number : ℕ) (bytes : List ℕ) (place rest : ℕ) : Type 0 where
   pub done : List ℕ
-  pub few : left ≤ many
+  pub least : at ≤ place
+  pub most : place ≤ at + many
   pub size : length bytes ≡ length start
-  pub digits : digits_of many number ≡ digits_of left rest ++ done
-  pub written : take (at + many) bytes ≡ take (at + left) start ++ done
+  pub digits : digits_of many number ≡ digits_of (place - at) rest ++ done
+  pub written : take (at + many) bytes ≡ take place start ++ done
   pub past : drop (at + many) bytes ≡ drop (at + many) start
 
 -- before the first turn
-pub behind_none : (start : List ℕ) (at many number : ℕ) → Behind start at many number start many number
-behind_none start at many number = record {
-  done = [];
-  few = omega arith;
-  size = refl;
-  digits = sym (append-nil (digits_of many number));
-  written = sym (append-nil (take (at + many) start));
-  past = refl;
-}
+pub behind_none : (start : List ℕ) (at many number : ℕ) → Behind start at many number start (at + many) number
+behind_none start at many number =
+    let all : at + many - at ≡ many = omega arith in
+    record {
+      done = [];
+      least = omega arith;
+      most = omega arith;
+      size = refl;
+      digits = rw all (sym (append-nil (digits_of many number)));
+      written = sym (append-nil (take (at + many) start));
+      past = refl;
+    }
 
 -- a turn
-pub behind_digit : {start : List ℕ} {at many number : ℕ} {bytes : List ℕ} {left rest : ℕ} → Behind start at many number bytes left rest
-    → at + many ≤ length start → 0 < left
-    → Behind start at many number (set bytes (at + (left - 1)) (character_of (rest % 16))) (left - 1) (rest / 16)
-behind_digit {start} {at} {many} {number} {bytes} {left} {rest} b room some =
+pub behind_digit : {start : List ℕ} {at many number : ℕ} {bytes : List ℕ} {place rest : ℕ} → Behind start at many number bytes place rest
+    → at + many ≤ length start → at < place
+    → Behind start at many number (set bytes (place - 1) (character_of (rest % 16))) (place - 1) (rest / 16)
+behind_digit {start} {at} {many} {number} {bytes} {place} {rest} b room some =
     let x : ℕ = character_of (rest % 16) in
-    let j : ℕ = at + (left - 1) in
-    let here : at + left ≡ suc j = omega arith in
+    let j : ℕ = place - 1 in
+    let next : place ≡ suc j = omega arith in
+    let here : take place start ≡ take (suc j) start = ap (λ (k : ℕ). take k start) next in
+    let left : place - at - 1 ≡ j - at = omega arith in
     let old : take (at + many) bytes ≡ take j start ++ get_or start j 0 ∷ b.done =
     b.written ∙ rw (here, take-suc start j 0 (omega arith), append_assoc) refl in
     record {
       done = x ∷ b.done;
-      few = omega arith;
+      least = omega arith;
+      most = omega arith;
       size = length-set bytes j x ∙ b.size;
-      digits = b.digits ∙ rw (last_digit left rest some, append_assoc) refl;
+      digits = b.digits ∙ rw (last_digit (place - at) rest (omega arith), append_assoc, left) refl;
       written =
           take-set-lt (at + many) bytes j x (omega arith)
           ∙ rw old (set_at (take j start) (get_or start j 0) b.done x j (length-take-le j start (omega arith)));
@@ -65,12 +73,13 @@ behind_digit {start} {at} {many} {number} {bytes} {left} {rest} b room some =
     }
 
 -- after the last turn
-pub behind_all : {start : List ℕ} {at many number : ℕ} {bytes : List ℕ} {left rest : ℕ} → Behind start at many number bytes left rest → left ≡ 0
+pub behind_all : {start : List ℕ} {at many number : ℕ} {bytes : List ℕ} {place rest : ℕ} → Behind start at many number bytes place rest → place ≤ at
     → take (at + many) bytes ≡ take at start ++ digits_of many number
 unfolding digits_of
-behind_all {start} {at} {many} {number} {bytes} {left} {rest} b none =
-    let here : at + left ≡ at = omega arith in
-    let all : digits_of many number ≡ b.done = b.digits ∙ rw none refl in
+behind_all {start} {at} {many} {number} {bytes} {place} {rest} b none =
+    let here : place ≡ at = omega arith in
+    let left : place - at ≡ 0 = omega arith in
+    let all : digits_of many number ≡ b.done = b.digits ∙ rw left refl in
     b.written ∙ rw (here, all) refl
 
 -- bytes behind a line, and more behind them

@@ -1,7 +1,7 @@
 -- "prints one line in the same digits, ended by 0A"
-use Rattle.std.specs.Prelude.{ℕ, zero, suc, ◌+◌, ◌/◌, ◌%◌, ◌≡◌, cond, List, [], ◌∷◌, ◌++◌, ltb, length, take, drop, replicate}
+use Rattle.std.specs.Prelude.{ℕ, zero, suc, ◌+◌, ◌/◌, ◌%◌, ◌≡◌, cond, List, [], ◌∷◌, ◌++◌, ltb, length, take, drop, replicate, Ok, Err}
 use Rattle.measures.specs.declared.Pence.{Pence}
-use Rattle.rules.specs.declared.Outcome.{Outcome}
+use Rattle.rules.specs.Outcomes.{Outcome}
 use Rattle.texts.specs.declared.PrintedLine.{PrintedLine}
 
 -- the character of a digit: 0-9 from 48 on, A-F from 65 on
@@ -24,10 +24,10 @@ digits_of_amount amount = bytes_of_width 8 amount.0
 -- "80, then net 2015 pension, net 1995 pension, net lump sum, charge, 8 bytes each; or EE, refusal 1 byte, line 2 bytes", "ended by 0A";
 -- "The line that begins with 80 gains it as 2 last bytes" (2.6), the count of upward roundings
 unfoldable pub printed_of : Outcome → List ℕ
-printed_of (Outcome.Worked a) =
+printed_of (Ok a) =
     bytes_of_width 1 0x80 ++ digits_of_amount a.net_2015 ++ digits_of_amount a.net_1995
     ++ digits_of_amount a.net_lump_sum ++ digits_of_amount a.charge ++ bytes_of_width 2 a.ups ++ 0x0A ∷ []
-printed_of (Outcome.Refused r) = bytes_of_width 1 0xEE ++ bytes_of_width 1 r.number ++ bytes_of_width 2 r.line ++ 0x0A ∷ []
+printed_of (Err r) = bytes_of_width 1 0xEE ++ bytes_of_width 1 r.number ++ bytes_of_width 2 r.line ++ 0x0A ∷ []
 
 -- the digits of the longest printed line: "66 digits", and four of the count
 abbrev pub printed_digits : ℕ

@@ -11,9 +11,8 @@ use Rattle.posts.specs.Limits.{bytes_of_post}
 use Rattle.posts.specs.Posts.{aggregate_pay}
 use Rattle.posts.specs.Call.{post_at, posts_from}
 use Rattle.posts.specs.Changes.{Change, joins, leaves, change_refusal, changed_posts, remaining}
-use Rattle.posts.specs.Year.{posts_of, no_posts, Held}
+use Rattle.posts.specs.Year.{posts_of, no_posts}
 use Rattle.posts.specs.Reached.{ChangedBy}
-use Rattle.posts.proofs.Standing.{held_none}
 use Rattle.posts.proofs.Calling.{from_more}
 use Rattle.timing.specs.Timing.{joinings, bytes_of_replacement, replaced, aggregates_from}
 
@@ -26,23 +25,23 @@ joinings_end (y ∷ ys) x = ap (λ (cs : List Change). joins y ∷ cs) (joinings
 
 -- a year that the first i posts in bytes have joined
 abbrev pub Joined : List ℕ → ℕ → YearPosts → Type 0
-Joined bytes i y = Held y × (posts_of y ≡ remaining (joinings (posts_from bytes 0 i)))
+Joined bytes i y = posts_of y ≡ remaining (joinings (posts_from bytes 0 i))
 
 module _ (bytes : List ℕ) where
   pub joined_none : Joined bytes 0 no_posts
   unfolding remaining after joinings posts_from
-  joined_none = (held_none, refl)
+  joined_none = refl
 
   -- one post more
   module _ (i : ℕ) (y : YearPosts) (so : Joined bytes i y) (x : Post) (e : x ≡ post_at bytes (bytes_of_post * i)) (r : Changed) (change : ChangedBy y (joins x) r) where
     posts_more : posts_of r.year ≡ remaining (joinings (posts_from bytes 0 i) ++ joins x ∷ [])
     unfolding remaining
     posts_more =
-        change.posts ∙ ap (λ (xs : List Post). tried change_refusal changed_posts xs (joins x)) so.1
+        change.posts ∙ ap (λ (xs : List Post). tried change_refusal changed_posts xs (joins x)) so
         ∙ sym (after_end change_refusal changed_posts [] (joinings (posts_from bytes 0 i)) (joins x))
 
     pub joined_more : Joined bytes (i + 1) r.year
-    joined_more = let none : 0 + i ≡ i = omega arith in (change.held, rw (add-one, from_more bytes 0 i, none, joinings_end, ← e) posts_more)
+    joined_more = rw (from_more bytes i, joinings_end, ← e) posts_more
 
 -- ---- one post for another
 

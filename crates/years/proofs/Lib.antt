@@ -1,1 +1,2 @@
 pub mod Years
+pub mod Joined

@@ -1,5 +1,5 @@
 -- Years: the laws of the code, and what it holds of the years kept.
-use Prim.Native.Nat.{ℕ, suc, ◌+◌, ◌≤◌, ◌<◌, ◌^◌}
+use Prim.Native.Nat.{ℕ, suc, ◌+◌, ◌-◌, ◌*◌, ◌≤◌, ◌<◌, ◌^◌}
 use mathlib.Core.Path.{◌≡◌, refl, sym, ◌∙◌, ap, subst}
 use mathlib.Core.Bool.{Bool, true, false, ◌&&◌, ◌||◌, cond}
 use mathlib.Core.List.{List, [], ◌∷◌, ◌++◌}
@@ -8,10 +8,12 @@ use native.Mathlib.Nat.{le_trans, le_of_eq}
 use native.Mathlib.Omega.{arith}
 use lib.Dec.{ltb, eqb}
 use lib.ListN.{length}
-use borrow.Author.Tests.{ltb-true, ne_eqb}
+use borrow.Author.Tests.{ltb-true, eqb-true, eqb-false, ne_eqb}
+use Rattle.measures.specs.declared.Counted.{Counted}
 use Rattle.measures.specs.Refusals.{unless}
 use Rattle.measures.specs.Lists.{All}
 use Rattle.measures.specs.Rounding.{upward}
+use Rattle.measures.proofs.Rounding.{upward_most}
 use Rattle.measures.specs.Tries.{tried}
 use Rattle.measures.proofs.Tests.{clash, passed, and_left, and_right}
 use Rattle.measures.proofs.Lists.{all_end, all_init, length_end}
@@ -20,44 +22,123 @@ use Rattle.posts.specs.declared.YearPosts.{YearPosts}
 use Rattle.posts.specs.Posts.{aggregate_pay, aggregate_way}
 use Rattle.measures.specs.Limits.{most_posts}
 use Rattle.posts.specs.Refusals.{Stands, post_refusal}
-use Rattle.posts.specs.Year.{posts_of, Held, joined_by, joining}
+use Rattle.posts.specs.Year.{no_posts, posts_of, Held, joined_by, joining}
 use Rattle.posts.proofs.Standing.{held_none, Joins, joins, held_joined, posts_joined, posts_count, stand_end, aggregate_most}
 use Rattle.benefits.specs.Steps.{after_year, after_year_ups}
 use Rattle.benefits.specs.Limits.{highest_revaluation}
 use Rattle.measures.specs.Limits.{highest_aggregate}
 use Rattle.benefits.specs.Bounds.{ceiling}
+use Rattle.benefits.proofs.Counts.{after_year_ups_most}
 use Rattle.benefits.proofs.Ceiling.{ceiling_step, ceiling_fits}
 use Rattle.frames.specs.declared.Year.{Year}
 use Rattle.frames.specs.Limits.{year_stands}
 use Rattle.frames.proofs.Accepted.{year_good}
 use Rattle.rules.specs.Rules.{WorkedYear, non_empty, last_of, most_years, is_next, year_refusal, open_posts, new_year, add_post}
-use Rattle.rules.specs.Amounts.{ups_of_years}
 use Rattle.rules.specs.Working.{pension_from, pension_of, own_aggregates, year_ups, ups_from}
 use Rattle.rules.proofs.Ends.{Ended, empty, ends, ended, last_end, nonempty_end, all_but_last, butlast_end, joined_year, add_end, open_end, pension_end, ups_end}
-use Rattle.rules.proofs.Counted.{ups_from_most}
 use Rattle.years.specs.declared.YearsState.{YearsState}
-use Rattle.years.specs.declared.YearsTaken.{YearsTaken}
-use Rattle.years.specs.Years.{no_years, year_fields, post_fields, pension_now, ups_now, with_year, with_post, post_taken, YearsBounds}
+use Rattle.years.specs.Years.{no_years, year_fields, post_fields, pension_now, ups_now, with_year, with_post, YearsCeiling, Within, YearsBounds}
+use Rattle.rules.specs.Amounts.{ups_of_years}
+use Rattle.rules.proofs.Counted.{ups_from_most}
 
 -- ---- the code
-
--- a test that is tried before another in the code and after it in the definition
-pub and_false : (t : Bool) → (t && false) ≡ false
-and_false true = refl
-and_false false = refl
 
 -- a year's aggregate pay is at most that of the most posts at the highest pay
 pub aggregate_limit : (y : YearPosts) → Held y → aggregate_pay (posts_of y) ≤ highest_aggregate
 aggregate_limit y held = aggregate_most (posts_of y) held.stand (omega (arith, held.few, posts_count y held))
 
--- the years with what the last year hands back are the years with the post, or as they were
-pub post_handed : (s : YearsState) (x : Post) → ◌≡◌ {A = YearsTaken} (record { years = record { count = s.count; april = s.april; revaluation = s.revaluation; pension = s.pension; ups = s.ups; posts = (joining s.posts x).year }; refusal = (joining s.posts x).refusal }) (post_taken s x)
-unfolding joining post_taken post_fields with_post tried
-post_handed s x = by (eqb (post_refusal (posts_of s.posts) x) 0)
+-- the years with what the last year becomes are the years with the post, or as they were
+pub post_handed : (s : YearsState) (x : Post) → ◌≡◌ {A = YearsState} (record { count = s.count; april = s.april; revaluation = s.revaluation; pension = s.pension; ups = s.ups; posts = joining s.posts x }) (tried post_fields with_post s x) × (post_refusal (posts_of s.posts) x ≡ post_fields s x)
+unfolding joining post_fields with_post tried
+post_handed s x = (by (eqb (post_refusal (posts_of s.posts) x) 0), refl)
   where
-    by : (t : Bool) → ◌≡◌ {A = YearsTaken} (record { years = record { count = s.count; april = s.april; revaluation = s.revaluation; pension = s.pension; ups = s.ups; posts = cond t (joined_by s.posts x) s.posts }; refusal = post_refusal (posts_of s.posts) x }) (record { years = cond t (with_post s x) s; refusal = post_refusal (posts_of s.posts) x })
+    by : (t : Bool) → ◌≡◌ {A = YearsState} (record { count = s.count; april = s.april; revaluation = s.revaluation; pension = s.pension; ups = s.ups; posts = cond t (joined_by s.posts x) s.posts }) (cond t (with_post s x) s)
     by true = refl
     by false = refl
+
+-- ---- how large the numbers are
+
+-- with the year that is open
+module _ (s : YearsState) (c : YearsCeiling s) (revaluation : s.revaluation ≤ highest_revaluation) (held : Held s.posts) where
+  pension_now_ceiling : pension_now s ≤ ceiling s.count
+  unfolding pension_now
+  pension_now_ceiling = by (eqb s.count 0) refl
+    where
+      work : ℕ
+      work = aggregate_pay (posts_of s.posts)
+
+      by : (t : Bool) → eqb s.count 0 ≡ t → cond t 0 (after_year s.pension.0 s.revaluation work) ≤ ceiling s.count
+      by true e = omega arith
+      by false e =
+          let one_more : suc (s.count - 1) ≡ s.count = omega (arith, eqb-false _ _ e) in
+          le_trans (ceiling_step (s.count - 1) s.pension.0 s.revaluation work c.pension revaluation (aggregate_limit s.posts held)) (le_of_eq (ap ceiling one_more))
+
+  ups_now_ceiling : ups_now s ≤ 3 * s.count
+  unfolding ups_now
+  ups_now_ceiling = by (eqb s.count 0) refl
+    where
+      work : ℕ
+      work = aggregate_pay (posts_of s.posts)
+
+      of_year : ℕ
+      of_year = upward (aggregate_way (posts_of s.posts)) + after_year_ups s.pension.0 s.revaluation work
+
+      by : (t : Bool) → eqb s.count 0 ≡ t → cond t 0 (s.ups + of_year) ≤ 3 * s.count
+      by true e = omega arith
+      by false e =
+          omega (arith, c.ups, eqb-false _ _ e, upward_most (aggregate_way (posts_of s.posts)), after_year_ups_most s.pension.0 s.revaluation work)
+
+  within : s.count ≤ most_years → s.april ≤ 2100 → Within s
+  within count april = (
+    record {
+      count = count;
+      april = april;
+      revaluation = revaluation;
+      pension = le_trans c.pension (ceiling_fits (s.count - 1) (omega arith));
+      now = le_trans pension_now_ceiling (ceiling_fits s.count count);
+      ups = omega (arith, c.ups);
+      ups_now = omega (arith, ups_now_ceiling);
+      posts = held;
+    },
+    c,
+  )
+
+pub none_within : Within no_years
+none_within = within no_years (record { pension = omega arith; ups = omega arith }) (omega arith) held_none (omega arith) (omega arith)
+
+-- an 02 that is not refused stands, and there is room for it
+year_taken : (s : YearsState) (y : Year) → 0 ≡ year_fields s y → (year_stands y ≡ true) × (s.count < most_years)
+unfolding year_fields
+year_taken s y e =
+    let follows = eqb s.count 0 || eqb y.april (s.april + 1) in
+    let t = passed (year_stands y && follows && ltb s.count most_years) 6 (omega arith) (sym e) in
+    (and_left _ follows (and_left _ (ltb s.count most_years) t), ltb-true _ _ (and_right (year_stands y && follows) _ t))
+
+pub year_within : (s : YearsState) (y : Year) (worked : Counted) (posts : YearPosts) → Within s → 0 ≡ year_fields s y
+    → (worked.amount.0 ≡ pension_now s) × (worked.ups ≡ ups_now s) → posts ≡ no_posts
+    → Within (record { count = s.count + 1; april = y.april; revaluation = y.revaluation; pension = worked.amount; ups = worked.ups; posts = posts })
+year_within s y worked posts b e now fresh =
+    let t = year_taken s y e in
+    let g = year_good y t.0 in
+    let pension = pension_now_ceiling s b.1 b.0.revaluation b.0.posts in
+    let ups = ups_now_ceiling s b.1 b.0.revaluation b.0.posts in
+    let before : s.count ≡ s.count + 1 - 1 = omega arith in
+    within _ (record { pension = rw (now.0, ← before) pension; ups = omega (arith, now.1, ups) }) g.revaluation (rw fresh held_none)
+    (omega (arith, t.1)) g.april_to
+
+-- an 03
+held_joining : (y : YearPosts) (x : Post) → Held y → Held (joining y x)
+unfolding joining
+held_joining y x held = by (eqb (post_refusal (posts_of y) x) 0) refl
+  where
+    by : (t : Bool) → eqb (post_refusal (posts_of y) x) 0 ≡ t → Held (cond t (joined_by y x) y)
+    by true e = held_joined y x held (eqb-true _ _ e)
+    by false e = held
+
+pub post_within : (s : YearsState) (x : Post) (posts : YearPosts) → Within s → posts ≡ joining s.posts x
+    → Within (record { count = s.count; april = s.april; revaluation = s.revaluation; pension = s.pension; ups = s.ups; posts = posts })
+post_within s x posts b e =
+    within _ (record { pension = b.1.pension; ups = b.1.ups }) b.0.revaluation (rw e (held_joining s.posts x b.0.posts)) b.0.count b.0.april
 
 -- ---- what is held of the years kept
 
@@ -230,7 +311,7 @@ module _ (ys : List WorkedYear) (x : Post) where
     pub post_good_kept : GoodYears ys → GoodYears (add_post ys x)
     post_good_kept g = record { few = rw add_length g.few; each = add_good g.each (joins (open_posts ys) x r) }
 
--- ---- how large the numbers are
+-- ---- how large the numbers of the years kept are
 
 pension_ceiling : (before k : ℕ) (ys : List WorkedYear) → All GoodYear ys → before ≤ ceiling k → pension_from before ys (own_aggregates ys) ≤ ceiling (k + length ys)
 unfolding pension_from

@@ -1,20 +1,19 @@
 -- Years and the posts of a year, as a case holds them: the refusal of an 02 and an 03, what each makes of them, and the pension.
-use Rattle.std.specs.Prelude.{ℕ, ◌+◌, ◌^◌, ◌≤◌, ◌&&◌, ◌||◌, cond, ltb, eqb}
+use Rattle.std.specs.Prelude.{ℕ, ◌+◌, ◌-◌, ◌*◌, ◌^◌, ◌≤◌, ◌&&◌, ◌||◌, cond, ltb, eqb}
 use Rattle.measures.specs.Refusals.{unless}
-use Rattle.measures.specs.Tries.{tried}
 use Rattle.measures.specs.Rounding.{upward}
 use Rattle.posts.specs.declared.Post.{Post}
 use Rattle.posts.specs.Posts.{aggregate_pay, aggregate_way}
 use Rattle.posts.specs.Refusals.{post_refusal}
 use Rattle.posts.specs.Year.{no_posts, posts_of, Held, joined_by}
 use Rattle.benefits.specs.Limits.{highest_revaluation}
+use Rattle.benefits.specs.Bounds.{ceiling}
 use Rattle.benefits.specs.Steps.{after_year, after_year_ups}
 use Rattle.frames.specs.declared.Year.{Year}
 use Rattle.frames.specs.Limits.{year_stands}
 use Rattle.rules.specs.Rules.{most_years}
 use Rattle.rules.specs.Amounts.{ups_of_years}
 use Rattle.years.specs.declared.YearsState.{YearsState}
-use Rattle.years.specs.declared.YearsTaken.{YearsTaken}
 
 -- no year yet
 abbrev pub no_years : YearsState
@@ -62,14 +61,6 @@ with_post s x =
       posts = joined_by s.posts x;
     }
 
--- an 02 taken: refused, the years as they were
-unfoldable pub year_taken : YearsState → Year → YearsTaken
-year_taken s y = record { years = tried year_fields with_year s y; refusal = year_fields s y }
-
--- an 03 taken
-unfoldable pub post_taken : YearsState → Post → YearsTaken
-post_taken s x = record { years = tried post_fields with_post s x; refusal = post_fields s x }
-
 -- how large the numbers are, each year and post accepted
 pub record YearsBounds (s : YearsState) : Type 0 where
   pub count : s.count ≤ most_years
@@ -80,3 +71,12 @@ pub record YearsBounds (s : YearsState) : Type 0 where
   pub ups : s.ups ≤ ups_of_years
   pub ups_now : ups_now s ≤ ups_of_years
   pub posts : Held s.posts
+
+-- what keeps them so from year to year: the years before the last, each at most at the highest revaluation and aggregate and with three upward roundings
+pub record YearsCeiling (s : YearsState) : Type 0 where
+  pub pension : s.pension.0 ≤ ceiling (s.count - 1)
+  pub ups : s.ups ≤ 3 * (s.count - 1)
+
+-- both
+abbrev pub Within : YearsState → Type 0
+Within s = YearsBounds s × YearsCeiling s

@@ -19,9 +19,9 @@ lump_sum-lump-requires c = omega (arith, pension_most _ _ _ c.section_pension-pe
 pub scaled-product-requires : goal.scaled-product-requires
 scaled-product-requires c = omega (arith, mul-le-mul (pension_most _ _ _ c.section_pension-pension.ensures.0 c.requires.0 c.requires.1) c.requires.2)
 
-pub overflow_add-amount : goal.overflow_add-amount
+pub overflow_add-result : goal.overflow_add-result
 unfolding lump_sum
-overflow_add-amount c =
+overflow_add-result c =
     omega (arith, pension_most _ _ _ c.section_pension-pension.ensures.0 c.requires.0 c.requires.1, rounded_bound _ 56250000000000 100 (omega arith) (mul-le-mul (pension_most _ _ _ c.section_pension-pension.ensures.0 c.requires.0 c.requires.1) c.requires.2))
 
 pub returns : goal.returns
@@ -31,5 +31,5 @@ returns c =
     let lump = c.lump_sum-lump.ensures in
     let pension = c.section_pension-pension.ensures in (
       simp (product.0, lump, pension.0),
-      simp (c.upward_of_two-ups.ensures, product.1, pension.0, pension.1),
+      simp (c.upward_of_two.ensures, product.1, pension.0, pension.1),
     )

@@ -5,8 +5,8 @@ use Rattle.factors.proofs.wanted_months.Goals as goal
 
 pub returns-in-Early : goal.returns-in-Early
 unfolding early
-returns-in-Early c = early_wanted c.months_early-months.ensures.months c.in-Early.is
+returns-in-Early c = early_wanted c.months_early.ensures.months c.in-Early.is
 
 pub returns-in-Late : goal.returns-in-Late
 unfolding early
-returns-in-Late c = late_wanted c.months_early-months.ensures.months c.in-Late.is
+returns-in-Late c = late_wanted c.months_early.ensures.months c.in-Late.is

@@ -1,26 +1,10 @@
 -- `halves::rounded_product` meets its contract.
 use mathlib.Core.Path.{◌∙◌, ap}
-use Prim.Native.Nat.{ℕ, ◌+◌, ◌/◌, ◌%◌, ◌*◌, ◌≤◌, ◌^◌}
-use native.Mathlib.Nat.{mod-lt, mul-le-mul}
+use Prim.Native.Nat.{ℕ, ◌+◌, ◌/◌, ◌*◌, ◌^◌}
 use native.Mathlib.Omega.{arith}
-use Rattle.measures.proofs.Products.{product}
 use Rattle.measures.proofs.Rounding.{rounded_bound}
 use Rattle.halves.proofs.Laws.{product_rounded, product_way}
 use Rattle.halves.proofs.rounded_product.Goals as goal
-
-pub overflow_mul-upper : goal.overflow_mul-upper
-overflow_mul-upper c = product (2 ^ 47) 65535 c.requires.factors.0 (omega arith) tt
-
-pub overflow_mul-lower : goal.overflow_mul-lower
-overflow_mul-lower c = product (2 ^ 47) 65535 c.requires.factors.0 (omega arith) tt
-
-pub overflow_mul-upper-2 : goal.overflow_mul-upper-2
-overflow_mul-upper-2 c = omega (arith, mod-lt (c.args.a * (c.args.b / 65536)) c.requires.divisor.0, c.requires.divisor.1)
-
-pub overflow_add-upper : goal.overflow_add-upper
-overflow_add-upper c =
-    let l : c.args.b % 65536 ≤ 65535 = omega arith in
-    omega (arith, mul-le-mul c.requires.factors.0 l, mod-lt (c.args.a * (c.args.b / 65536)) c.requires.divisor.0, c.requires.divisor.1)
 
 pub overflow_mul-result : goal.overflow_mul-result
 overflow_mul-result c =

@@ -1,10 +1,7 @@
--- `records::records_call`: at each turn the first i records are read.
-use Rattle.std.proofs.Common.{◌-◌, ◌≤◌, length}
-use Rattle.records.proofs.Calling.{RecordsRead}
+-- `records::records_call`: at each turn the year is of the records before this one.
+use Rattle.std.proofs.Common.{take}
+use Rattle.posts.specs.Reading.{YearOf}
 use Rattle.records.proofs.records_call.Given as goal
 
-abbrev pub invariant-loop-i : goal.invariant-loop-i
-invariant-loop-i l = record { within : l.i ≤ l.n; so : RecordsRead l.list (length l.places) l.i l.read }
-
-abbrev pub decreases-loop-i : goal.decreases-loop-i
-decreases-loop-i l = l.n - l.i
+abbrev pub invariant-loop-x : goal.invariant-loop-x
+invariant-loop-x l = YearOf (take l.x-index l.list) l.year

@@ -1,10 +1,6 @@
 -- `timing::joined_by`: the invariant says that the first i posts have joined.
-use Rattle.std.proofs.Common.{◌-◌, ◌≤◌}
 use Rattle.timing.proofs.Changing.{Joined}
 use Rattle.timing.proofs.joined_by.Given as goal
 
 abbrev pub invariant-loop-i : goal.invariant-loop-i
-invariant-loop-i l = (l.i ≤ l.n) × Joined l.posts l.i l.year
-
-abbrev pub decreases-loop-i : goal.decreases-loop-i
-decreases-loop-i l = l.n - l.i
+invariant-loop-i l = Joined l.posts l.i l.year

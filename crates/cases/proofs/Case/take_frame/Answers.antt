@@ -1,10 +1,6 @@
 -- `cases::Case::take_frame` meets its contract.
-use mathlib.Core.Path.{◌∙◌}
-use Rattle.cases.proofs.Contracts.{case_bounds, frame_taken, taken_from}
+use Rattle.cases.proofs.Contracts.{frame_taken}
 use Rattle.cases.proofs.Case.take_frame.Goals as goal
 
-pub step-requires : goal.step-requires
-step-requires c = case_bounds _ c.requires
-
 pub returns : goal.returns
-returns c = taken_from _ _ _ c.requires (c.step.ensures ∙ frame_taken _ _)
+returns c = let s = c.step in frame_taken _ _ _ s.result _ c.requires s.ensures.refusal s.ensures.case c.err-refusal.ensures.value

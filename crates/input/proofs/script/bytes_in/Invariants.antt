@@ -1,12 +1,9 @@
--- `input::script::bytes_in` meets its contract: what was put is the start of what is spelled, and one place fewer is left at each turn.
-use Prim.Native.Nat.{◌*◌, ◌-◌}
-use lib.ListN.{length, drop}
+-- `input::script::bytes_in` meets its contract: what was put is the start of what is spelled.
+use Prim.Native.Nat.{◌*◌}
+use lib.ListN.{drop}
 use Rattle.input.specs.Script.{bytes_spelled}
 use Rattle.input.proofs.Putting.{Putting}
 use Rattle.input.proofs.script.bytes_in.Given as goal
 
 abbrev pub invariant-loop-n : goal.invariant-loop-n
 invariant-loop-n l = Putting (bytes_spelled l.text) l.initial.bytes (bytes_spelled (drop (2 * l.n) l.text)) l.bytes l.n
-
-abbrev pub decreases-loop-n : goal.decreases-loop-n
-decreases-loop-n l = length l.bytes - l.n

@@ -1,10 +1,7 @@
--- `posts::YearPosts::allocate` meets its contract: the invariant is `Upto`, the parts, the pay and its way of the posts passed.
-use Prim.Native.Nat.{◌-◌}
+-- `posts::YearPosts::allocate`: the invariant is `Upto`, the parts, the pay and its way of the posts passed.
+use Rattle.posts.specs.YearFields.{year_of}
 use Rattle.posts.proofs.Turns.{Upto}
 use Rattle.posts.proofs.YearPosts.allocate.Given as goal
 
 abbrev pub invariant-loop-i : goal.invariant-loop-i
-invariant-loop-i l = Upto l.self l.parts l.aggregate.0 l.way l.i
-
-abbrev pub decreases-loop-i : goal.decreases-loop-i
-decreases-loop-i l = l.self.count - l.i
+invariant-loop-i l = Upto (year_of l.self-inside) l.allocation.parts l.allocation.aggregate.0 l.allocation.way l.i

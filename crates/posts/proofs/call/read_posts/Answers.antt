@@ -1,43 +1,22 @@
--- `posts::call::read_posts` meets its contract: the invariant says that the first i posts are read.
+-- `posts::call::read_posts` meets its contract.
 use mathlib.Core.Path.{◌≡◌}
-use Prim.Native.Nat.{ℕ, ◌+◌, ◌*◌}
-use mathlib.Core.List.{List}
-use native.Mathlib.Numerals.{add-one}
-use Rattle.posts.specs.declared.Post.{Post}
-use Rattle.posts.specs.declared.Changed.{Changed}
-use Rattle.posts.specs.Limits.{bytes_of_post}
-use Rattle.posts.specs.Call.{post_at, posts_from}
-use Rattle.posts.specs.Reading.{read_on, ReadTo}
-use Rattle.posts.proofs.ReadingLaws.{read_none, read_more}
-use Rattle.posts.proofs.Calling.{from_more}
-use native.Mathlib.Omega.{arith}
+use Rattle.std.proofs.Common.{rules, Err}
+use Rattle.posts.specs.Call.{posts_from}
+use Rattle.posts.proofs.ReadingLaws.{year_of_none, year_of_more, refused_among}
+use Rattle.posts.proofs.Calling.{from_more, from_parts}
 use Rattle.posts.proofs.call.read_posts.Goals as goal
 
 pub loop-i-init : goal.loop-i-init
 unfolding posts_from
-loop-i-init c = (omega arith, rw c.none-year.ensures.empty (read_none 0))
+loop-i-init c = rw c.none-year.ensures.empty year_of_none
 
-pub overflow_mul-i : goal.overflow_mul-i
-overflow_mul-i c = omega (arith, c.requires.0)
-
-pub post_at-requires : goal.post_at-requires
-post_at-requires c = omega (arith, c.requires.1)
-
-pub read_on-read-requires : goal.read_on-read-requires
-read_on-read-requires c = c.loop-i.invariant.1.held
-
--- one post more of the bytes
-turn : (bytes : List ℕ) (i : ℕ) (s r : Changed) (x : Post) → ReadTo 0 (posts_from bytes 0 i) s → x ≡ post_at bytes (bytes_of_post * i) → r ≡ read_on s x → ReadTo 0 (posts_from bytes 0 (i + 1)) r
-turn bytes i s r x so e f =
-    let none : 0 + i ≡ i = omega arith in
-    rw (f, e, add-one, from_more bytes 0 i, none)
-    (read_more 0 (posts_from bytes 0 i) s so (post_at bytes (bytes_of_post * i)))
+pub returns-in_err-add : goal.returns-in_err-add
+returns-in_err-add c =
+    let r : c.from_residual.result ≡ Err c.in_err-add.field-0.0 = search rules in
+    let among = refused_among _ c.loop-i.year c.loop-i.invariant c.post_at.result _ c.in_err-add.field-0.0 c.in_err-add.ensures.refusal in
+    rw (r, from_parts c.args.bytes.now c.args.n c.loop-i.i c.loop-i-test.true, ← c.post_at.ensures) among
 
 pub loop-i-preserved : goal.loop-i-preserved
 loop-i-preserved c =
-    (omega arith, turn c.args.bytes.now c.loop-i.i _ _ _ c.loop-i.invariant.1 c.post_at.ensures c.read_on-read.ensures)
-
-pub returns : goal.returns
-returns c =
-    let all : c.loop-i.i ≡ c.args.n = omega arith in
-    rw all at c.loop-i.invariant.1
+    rw (from_more c.args.bytes.now c.loop-i.i, ← c.post_at.ensures)
+    (year_of_more _ c.loop-i.year c.loop-i.invariant c.post_at.result c.in_ok-add.ensures.refusal _ c.add.ensures.year)

@@ -1,11 +1,7 @@
--- `posts::call::read_posts` meets its contract: the invariant says that the first i posts are read.
-use Prim.Native.Nat.{◌-◌, ◌≤◌}
+-- `posts::call::read_posts`: at each turn the year is of the first i posts.
 use Rattle.posts.specs.Call.{posts_from}
-use Rattle.posts.specs.Reading.{ReadTo}
+use Rattle.posts.specs.Reading.{YearOf}
 use Rattle.posts.proofs.call.read_posts.Given as goal
 
 abbrev pub invariant-loop-i : goal.invariant-loop-i
-invariant-loop-i l = (l.i ≤ l.n) × ReadTo 0 (posts_from l.bytes 0 l.i) l.read
-
-abbrev pub decreases-loop-i : goal.decreases-loop-i
-decreases-loop-i l = l.n - l.i
+invariant-loop-i l = YearOf (posts_from l.bytes 0 l.i) l.year

@@ -1,16 +1,12 @@
--- `section::SectionState::pension` meets its contract: by the section.
-use Rattle.measures.proofs.Tests.{tests}
-use Rattle.section.specs.Section.{pension_earned, ups_earned_by}
+-- `section::SectionState::pension` meets its contract: without a pay frame of the section there is nothing.
+use Rattle.section.proofs.Section.{not_1995, not_2008, no_pay_frame}
 use Rattle.section.proofs.SectionState.pension.Goals as goal
 
-pub returns-in-1 : goal.returns-in-1
-unfolding pension_earned ups_earned_by
-returns-in-1 c = (rw (c.in-1.is, c.pension_of.ensures.0), rw (c.in-1.is, c.pension_of.ensures.1))
+pub returns-in_default-clause-pension : goal.returns-in_default-clause-pension
+returns-in_default-clause-pension c = let pay = c.in-Some-FinalPay in rw (← c.self.view_is) (not_1995 _ _ _ _ pay.is (rw pay.is at pay.field-0-is) c.if-section-eq1.false)
 
-pub returns-in-2 : goal.returns-in-2
-unfolding pension_earned ups_earned_by
-returns-in-2 c = (rw (c.in-2.is, c.pension_of_average.ensures.0), rw (c.in-2.is, c.pension_of_average.ensures.1))
+pub returns-in_default-2-clause-pension : goal.returns-in_default-2-clause-pension
+returns-in_default-2-clause-pension c = let pay = c.in-Some-Average in rw (← c.self.view_is) (not_2008 _ _ _ _ pay.is (rw pay.is at pay.field-0-is) c.if-section-eq2.false)
 
-pub returns-in_default : goal.returns-in_default
-unfolding pension_earned ups_earned_by
-returns-in_default c = (search tests, search tests)
+pub returns-in_default-3-clause-pension : goal.returns-in_default-3-clause-pension
+returns-in_default-3-clause-pension c = rw (← c.self.view_is) (no_pay_frame _ _ c.in_default.is)
