@@ -18,7 +18,8 @@ fn list(rt: &impl Print, case: Case, digits: &[u8]) -> Case
     taken.case
 }
 
-// A line of a label and the refusals of frames, which blanks part after one byte that parts them from what stands before.
+// A line of a label and the refusals of frames, which blanks part after one byte that parts them from what stands before. The handle by
+// its type: no invariant of a loop over a split is read in a function with a type parameter.
 pub fn offer(rt: &HostRuntime, mut case: Case, label: &[u8], frames: &[u8]) -> Case
     requires { IsCase case }
     ensures { HandedOn case (with_words frames.now) result }
