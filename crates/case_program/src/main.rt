@@ -6,7 +6,7 @@ ghost use Rattle.rules.specs.Outcomes.{outcome_numbers};
 ghost use Rattle.case_program.specs.Answered.{Answered};
 
 use input::{Reading, read_input};
-use rules::{Amounts, RefusalAt};
+use rules::{Amounts, NumberedLine, RefusalAt};
 use std::env::{Env, FillError};
 use std::fmt::{self, Write};
 use std::io::{Error, Read};
@@ -59,7 +59,7 @@ fn work<R: Read>(reader: &mut R, rt: &(impl Print + Eprint)) {
     if let Some(error) = given.error {
         fail(rt, "canyonsieve-case: standard input", error);
     }
-    let line = printed(answer(&buffer, given));
+    let line = printed(answer(&buffer, given).map_err(NumberedLine::from));
     if let Err(error) = rt.write_all(line.as_bytes()) {
         fail(rt, "canyonsieve-case: standard output", error);
     }

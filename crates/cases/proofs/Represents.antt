@@ -25,13 +25,13 @@ use Rattle.rules.specs.Rules.{SectionPay, of1995, of2008, Frames, Kept, nothing,
 use Rattle.rules.proofs.Ends.{nonempty_end}
 use Rattle.section.specs.declared.SectionState.{SectionState}
 use Rattle.section.specs.Section.{pay_fields, ten_pays_fields}
-use Rattle.years.proofs.Years.{HoldsYears, years_none, GoodYears, good_none, year_agrees, post_agrees, year_kept, year_good_kept, add_nonempty, post_kept, post_good_kept}
-use Rattle.section.proofs.Section.{HoldsSection, section_none, pay_kept, ten_pays_kept, GoodPay}
-use Rattle.factors.proofs.Factors.{HoldsFactors, factors_for_lem, GoodFactor, factor_agrees, factor_kept}
-use Rattle.debits.proofs.Debits.{HoldsDebits, debits_none, GoodDebit, debit_agrees, debit_kept}
+use Rattle.years.proofs.Years.{HoldsYears, years_none, GoodYears, good_none, year_agrees, post_agrees, year_kept, year_good_kept, add_nonempty, post_kept, post_good_kept, years_bounds}
+use Rattle.section.proofs.Section.{HoldsSection, section_none, pay_kept, ten_pays_kept, GoodPay, section_bounds}
+use Rattle.factors.proofs.Factors.{HoldsFactors, factors_for_lem, GoodFactor, factor_agrees, factor_kept, factors_bounds}
+use Rattle.debits.proofs.Debits.{HoldsDebits, debits_none, GoodDebit, debit_agrees, debit_kept, debits_bounds}
 use Rattle.cases.specs.declared.order.Stage.{Stage}
 use Rattle.cases.specs.declared.Case.{Case}
-use Rattle.cases.specs.State.{start, stage_number, in_order_at, case_fields, case_refusal, at_section, case_next}
+use Rattle.cases.specs.State.{start, stage_number, in_order_at, case_fields, case_refusal, at_section, case_next, Bounds}
 use Rattle.cases.proofs.Stages.{stage_of, order_agrees, stage_in_years, stage_after_pay, stage_after_factor, stage_after_debit}
 
 pub record Holds (c : Case) (k : Frames) : Type 0 where
@@ -187,3 +187,23 @@ frame_keeps c nothing (Frame.Factor f) h r = clash (omega arith)
 frame_keeps c nothing (Frame.Debit d) h r = clash (omega arith)
 frame_keeps c nothing (Frame.TenPays t) h r = clash (omega arith)
 frame_keeps c (begun k) f h r = let o = order_stands k f r in frame_keeps_begun c k f h.0 h.1 o.0 o.1
+
+-- ---- how large the numbers of a case are
+
+pub represented_bounds : (c : Case) (k : Kept) → Represents c k → Bounds c
+unfolding start
+represented_bounds c nothing h =
+    rw h
+    (record {
+      years = years_bounds _ [] years_none good_none;
+      section = section_bounds _ _ section_none 0 tt;
+      dated = record { factor2015 = record { pension = omega arith; lump = omega arith }; factor1995 = record { pension = omega arith; lump = omega arith } };
+      debits = debits_bounds _ [] debits_none 0 tt;
+    })
+represented_bounds c (begun k) (h, g) =
+    record {
+      years = years_bounds c.years k.years h.years g.years;
+      section = section_bounds c.section k.pay h.section k.member.section g.pay;
+      dated = factors_bounds c.factors k.member k.factors h.factors k.member.section g.factors;
+      debits = debits_bounds c.debits k.debits h.debits k.member.section g.debits;
+    }

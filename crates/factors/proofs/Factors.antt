@@ -76,7 +76,7 @@ early_none m e unsectioned =
     rw (early_recorded m e, unsectioned) (at_no_age _ _ _ (sym (completed _ _ (member_good m e).dates)))
 
 -- the pension age of a section is one that months early takes
-section_age : (section : ℕ) {age : ℕ} → age ≡ section_pension_age section → (section ≡ 0 → ⊥) → section ≤ 2 → (55 ≤ age) × (age ≤ 75)
+pub section_age : (section : ℕ) {age : ℕ} → age ≡ section_pension_age section → (section ≡ 0 → ⊥) → section ≤ 2 → (55 ≤ age) × (age ≤ 75)
 section_age zero e sectioned few = absurd (sectioned refl)
 section_age (suc zero) e sectioned few = (omega arith, omega arith)
 section_age (suc (suc zero)) e sectioned few = (omega arith, omega arith)

@@ -71,10 +71,7 @@ fn main(rt: HostRuntime) {
     let given = read_input(&mut rt.stdin(), &mut buffer);
     let mut year = YearPosts::none();
     for ended in buffer[..given.count].split_inclusive(|x| *x == b'\n') {
-        let text = match ended {
-            [text @ .., b'\n'] => text,
-            text => text,
-        };
+        let text = &ended[..end_at(ended, ended.len().saturating_sub(1), b'\n')];
         year = line(&rt, year, text);
         let _ = rt.write_all(b"\n");
     }

@@ -21,7 +21,7 @@ use Rattle.averages.specs.Averages.{threes, better, best_of, best_three, average
 use Rattle.frames.specs.Frames.{date_at, member_in, year_in, final_pay_in, factor_in, debit_in, ten_pays_in, frame_length, frame_of, decoded}
 use Rattle.frames.specs.Limits.{member_refusal, year_stands, scheme_stands, has_lump_sum, factor_refusal, debit_refusal}
 use Rattle.std.specs.Prelude.{Ok, Err}
-use Rattle.rules.specs.Outcomes.{NumberedLine}
+use Rattle.rules.specs.declared.NumberedLine.{NumberedLine}
 use Rattle.rules.specs.Rules.{WorkedYear, of1995, of2008, last_of, before_pay, has_section, in_section, in_order, is_next, year_refusal, open_posts, after_factor, after_debit, fields_refusal, refusal_of, add_post, keep, refusal_of_decoded, keep_decoded, decoded_all, kept}
 use Rattle.rules.specs.Working.{early, pension_from, pension_of, own_pay, pension1995, factor_for, reduced_if, gross2015, gross1995, gross_lump_sum, debit_for, debit_of, debit2015, debit1995, debit_lump_sum, charge_of, year_ups, ups_from, section_ups, reduced_if_way, reduction2015, reduction1995, reduction_lump_sum, reduction_ups, debit_way, debit_ups, charge_ups_of, ups_of, pay_there, factors_there, debits_fit, closing_of, amounts_of, worked_unless, answer_of, amounts_given}
 

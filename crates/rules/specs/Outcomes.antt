@@ -1,15 +1,11 @@
 -- What a case comes to, as the papers put it: amounts, or a refusal by its number.
-use Rattle.std.specs.Prelude.{ℕ, Result, Ok, Err}
+use Rattle.std.specs.Prelude.{Result, Ok, Err}
 use Rattle.measures.specs.Refusals.{number_of}
 use Rattle.rules.specs.declared.Amounts.{Amounts}
 use Rattle.rules.specs.declared.RefusalAt.{RefusalAt}
+use Rattle.rules.specs.declared.NumberedLine.{NumberedLine}
 
--- the number of a refusal, and the line of a text, 0 for no line
-pub record NumberedLine : Type 0 where
-  pub number : ℕ
-  pub line : ℕ
-
--- the amounts of a worked case, or its refusal
+-- the amounts of a worked case, or its refusal: its number, and the line of a text, 0 for no line
 abbrev pub Outcome : Type 0
 Outcome = Result Amounts NumberedLine
 

@@ -1,6 +1,9 @@
 // The papers' rules over the frames kept of one member, and what a case comes to.
 #![tactic(auto)]
 
+ghost use Rattle.std.specs.Prelude.{◌≡◌};
+ghost use Rattle.measures.specs.Refusals.{number_of};
+
 use measures::{Pence, Refusal};
 
 // The amounts of a worked case, and how many of the roundings on the way to them went up.
@@ -28,4 +31,23 @@ pub struct SchemeAmounts {
 pub struct RefusalAt {
     pub refusal: Refusal,
     pub line: u64,
+}
+
+// A refusal as it is printed: its number, whatever number it is, and the line of a text, 0 for no line.
+#[derive(Clone, Copy)]
+pub struct NumberedLine {
+    pub number: u64,
+    pub line: u64,
+}
+
+// The refusal of a case by its number.
+impl From<RefusalAt> for NumberedLine {
+    ghost from_gives = { λ refused numbered. (numbered.number ≡ number_of refused.refusal) × (numbered.line ≡ refused.line) };
+
+    fn from(refused: RefusalAt) -> NumberedLine {
+        NumberedLine {
+            number: u64::from(refused.refusal),
+            line: refused.line,
+        }
+    }
 }

@@ -16,23 +16,21 @@ use cases::Case;
 use input::{end_at, read_input};
 use lines::{close, offer};
 
-// Does a line, and gives the case after it. A command stays a byte: each of the two letters stands in one arm.
-fn line(rt: &HostRuntime, case: Case, text: &[u8]) -> Case
-    requires { IsCase case }
-    ensures { HandedOn case (after_line text.now) result }
+// Does a line, and leaves the case as it is after it. A command stays a byte: each of the two letters stands in one arm. The case is lent:
+// handed on by value it is copied for each line, and each copy is first written with noughts.
+fn line(rt: &HostRuntime, case: &mut Case, text: &[u8])
+    requires { IsCase case.old }
+    ensures { HandedOn case.old (after_line text.now) case.new }
 {
     let [command, _, rest @ ..] = text else {
-        return Case::start();
+        *case = Case::start();
+        return;
     };
     let bar = end_at(rest, 0, b'|');
     match command {
-        b'F' => offer(rt, case, &rest[..bar], &rest[bar..]),
-        b'C' => {
-            let after = case;
-            close(rt, case, &rest[..bar]);
-            after
-        }
-        _ => case,
+        b'F' => *case = offer(rt, *case, &rest[..bar], &rest[bar..]),
+        b'C' => close(rt, *case, &rest[..bar]),
+        _ => (),
     }
 }
 
@@ -43,10 +41,7 @@ fn main(rt: HostRuntime) {
     let given = read_input(&mut rt.stdin(), &mut buffer);
     let mut case = Case::start();
     for ended in buffer[..given.count].split_inclusive(|x| *x == b'\n') {
-        let text = match ended {
-            [text @ .., b'\n'] => text,
-            text => text,
-        };
-        case = line(&rt, case, text);
+        let text = &ended[..end_at(ended, ended.len().saturating_sub(1), b'\n')];
+        line(&rt, &mut case, text);
     }
 }

@@ -19,7 +19,7 @@ use Rattle.averages.specs.declared.TenPays.{TenPays}
 use Rattle.averages.specs.declared.AveragePay.{AveragePay}
 use Rattle.averages.specs.Averages.{averaged, pension2008, pension2008_way, ten_pays_refusal}
 use Rattle.averages.specs.Bounds.{AveragePayBounds}
-use Rattle.averages.proofs.Accepted.{accepted_ten_pays, averaged_bounds}
+use Rattle.averages.proofs.Accepted.{accepted_ten_pays, averaged_bounds, pension2008_limit}
 use Rattle.frames.specs.Limits.{is_section}
 use Rattle.rules.specs.Rules.{SectionPay, of1995, of2008, given}
 use Rattle.rules.specs.Working.{own_pay, pension1995, charge_of, section_ups, charge_ups_of}
@@ -32,6 +32,14 @@ use Rattle.section.specs.Section.{no_pay, no_average, no_section, final_pay_of, 
 pub pension_limit : (f : FinalPay) → FinalPayBounds f → pension_of_pay f ≤ 562500000
 unfolding pension_of_pay
 pension_limit f b = section_limit _ _ (final_pay_limit f b) b.days
+
+-- before it is reduced
+pub earned_limit : (s : SectionState) → SectionBounds s → (section : ℕ) → pension_earned section s ≤ 750000000
+unfolding pension_earned
+earned_limit s b section =
+    let a = average_of s.pay in
+    both_sides (λ (n : ℕ). n ≤ 750000000) (eqb section 1) _ _ (omega (arith, pension_limit (final_pay_of s.pay) b.pay))
+    (both_sides (λ (n : ℕ). n ≤ 750000000) (eqb section 2) _ 0 (pension2008_limit a.pay.0 a.days b.average.pay b.average.days) (omega arith))
 
 -- three times the most
 pub lump_limit : (section pension : ℕ) → pension ≤ highest_amount → lump_earned section pension ≤ 2 ^ 50

@@ -1,11 +1,10 @@
 // The line that the case program prints.
 ghost use Rattle.std.specs.Prelude.{◌≡◌, [], ◌∷◌, ◌<◌, min, take, Err};
-ghost use Rattle.rules.specs.Outcomes.{outcome_numbers};
 ghost use Rattle.texts.specs.Printed.{character_of, digits_of, printed_bytes, Printed};
 ghost use Rattle.texts.specs.Lines.{Room, Extended};
 
 use super::{PRINTED_BYTES, PrintedLine};
-use rules::{Amounts, RefusalAt};
+use rules::{Amounts, NumberedLine};
 
 // The digits of an amount.
 const AMOUNT_DIGITS: usize = 16;
@@ -76,9 +75,9 @@ pub fn printed_refusal(number: u64, line: u64) -> PrintedLine
         .with_end()
 }
 
-// The line of an outcome.
-pub fn printed(outcome: Result<Amounts, RefusalAt>) -> PrintedLine
-    ensures { Printed (outcome_numbers outcome) result }
+// The line of an outcome, whatever number its refusal is.
+pub fn printed(outcome: Result<Amounts, NumberedLine>) -> PrintedLine
+    ensures { Printed outcome result }
 {
     match outcome {
         Ok(a) => EMPTY
@@ -89,6 +88,6 @@ pub fn printed(outcome: Result<Amounts, RefusalAt>) -> PrintedLine
             .with_number(AMOUNT_DIGITS, a.charge.0)
             .with_number(COUNT_DIGITS, a.ups)
             .with_end(),
-        Err(r) => printed_refusal(u64::from(r.refusal), r.line),
+        Err(r) => printed_refusal(r.number, r.line),
     }
 }
