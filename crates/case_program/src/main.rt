@@ -6,11 +6,11 @@ ghost use Rattle.rules.specs.Outcomes.{outcome_numbers};
 ghost use Rattle.case_program.specs.Answered.{Answered};
 
 use input::{Reading, read_input};
-use rules::{Amounts, NumberedLine, RefusalAt};
+use rules::{Amounts, RefusalAt};
 use std::env::{Env, FillError};
 use std::fmt::{self, Write};
 use std::io::{Error, Read};
-use texts::{LONGEST_TEXT, printed, work_text};
+use texts::{LONGEST_TEXT, case_line, work_text};
 
 // An error's words on standard error, without the number that std puts after the system's words.
 #[derive(Drop)]
@@ -59,7 +59,7 @@ fn work<R: Read>(reader: &mut R, rt: &(impl Print + Eprint)) {
     if let Some(error) = given.error {
         fail(rt, "canyonsieve-case: standard input", error);
     }
-    let line = printed(answer(&buffer, given).map_err(NumberedLine::from));
+    let line = case_line(answer(&buffer, given));
     if let Err(error) = rt.write_all(line.as_bytes()) {
         fail(rt, "canyonsieve-case: standard output", error);
     }

@@ -1,9 +1,6 @@
 // The papers' rules over the frames kept of one member, and what a case comes to.
 #![tactic(auto)]
 
-ghost use Rattle.std.specs.Prelude.{◌≡◌};
-ghost use Rattle.measures.specs.Refusals.{number_of};
-
 use measures::{Pence, Refusal};
 
 // The amounts of a worked case, and how many of the roundings on the way to them went up.
@@ -38,16 +35,4 @@ pub struct RefusalAt {
 pub struct NumberedLine {
     pub number: u64,
     pub line: u64,
-}
-
-// The refusal of a case by its number.
-impl From<RefusalAt> for NumberedLine {
-    ghost from_gives = { λ refused numbered. (numbered.number ≡ number_of refused.refusal) × (numbered.line ≡ refused.line) };
-
-    fn from(refused: RefusalAt) -> NumberedLine {
-        NumberedLine {
-            number: u64::from(refused.refusal),
-            line: refused.line,
-        }
-    }
 }

@@ -4,7 +4,7 @@
 mod printing;
 mod reading;
 
-pub use printing::{printed, printed_refusal};
+pub use printing::{case_line, printed, printed_refusal};
 pub use reading::work_text;
 
 // The bytes of the longest text.

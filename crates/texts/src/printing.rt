@@ -1,10 +1,11 @@
 // The line that the case program prints.
 ghost use Rattle.std.specs.Prelude.{◌≡◌, [], ◌∷◌, ◌<◌, min, take, Err};
+ghost use Rattle.rules.specs.Outcomes.{outcome_numbers};
 ghost use Rattle.texts.specs.Printed.{character_of, digits_of, printed_bytes, Printed};
 ghost use Rattle.texts.specs.Lines.{Room, Extended};
 
 use super::{PRINTED_BYTES, PrintedLine};
-use rules::{Amounts, NumberedLine};
+use rules::{Amounts, NumberedLine, RefusalAt};
 
 // The digits of an amount.
 const AMOUNT_DIGITS: usize = 16;
@@ -73,6 +74,16 @@ pub fn printed_refusal(number: u64, line: u64) -> PrintedLine
         .with_number(2, number)
         .with_number(4, line)
         .with_end()
+}
+
+// The line of what a case comes to, its refusal by the number.
+pub fn case_line(outcome: Result<Amounts, RefusalAt>) -> PrintedLine
+    ensures { Printed (outcome_numbers outcome) result }
+{
+    printed(outcome.map_err(|refused| NumberedLine {
+        number: u64::from(refused.refusal),
+        line: refused.line,
+    }))
 }
 
 // The line of an outcome, whatever number its refusal is.
