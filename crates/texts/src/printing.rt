@@ -76,16 +76,6 @@ pub fn printed_refusal(number: u64, line: u64) -> PrintedLine
         .with_end()
 }
 
-// The line of what a case comes to, its refusal by the number.
-pub fn case_line(outcome: Result<Amounts, RefusalAt>) -> PrintedLine
-    ensures { Printed (outcome_numbers outcome) result }
-{
-    printed(outcome.map_err(|refused| NumberedLine {
-        number: u64::from(refused.refusal),
-        line: refused.line,
-    }))
-}
-
 // The line of an outcome, whatever number its refusal is.
 pub fn printed(outcome: Result<Amounts, NumberedLine>) -> PrintedLine
     ensures { Printed outcome result }
@@ -101,4 +91,14 @@ pub fn printed(outcome: Result<Amounts, NumberedLine>) -> PrintedLine
             .with_end(),
         Err(r) => printed_refusal(r.number, r.line),
     }
+}
+
+// The line of what a case comes to, its refusal by the number.
+pub fn case_line(outcome: Result<Amounts, RefusalAt>) -> PrintedLine
+    ensures { Printed (outcome_numbers outcome) result }
+{
+    printed(outcome.map_err(|refused| NumberedLine {
+        number: u64::from(refused.refusal),
+        line: refused.line,
+    }))
 }
